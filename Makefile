@@ -1,4 +1,4 @@
-# The library for C, its part over OpenSSL, and the program, from what rt proves and builds.
+# The library for C, and the program, from what rt proves and builds.
 #
 #   make                             proves and builds the program, and the libraries in build/
 #   make test                        runs the tests of each language that is installed
@@ -23,8 +23,8 @@ LIBC = $(dir $(shell readlink -f "$$(command -v rt)"))../c/liblibc_c.a
 CRATES = $(shell find crates/*/src crates/*/specs crates/*/proofs -type f) crates.txt
 ARCHIVE = crates/jwt_c/out/libjwt_c.a
 PROGRAM = crates/jwt_tool/out/jwt_tool
-LIBRARIES = $(BUILD)/libfowharimu.a $(BUILD)/libfowharimu.so.0 $(BUILD)/libfowharimu_openssl.a $(BUILD)/libfowharimu_openssl.so.0
-PACKAGES = $(BUILD)/fowharimu.pc $(BUILD)/fowharimu_openssl.pc
+LIBRARIES = $(BUILD)/libfowharimu.a $(BUILD)/libfowharimu.so.0
+PACKAGES = $(BUILD)/fowharimu.pc
 
 all: libraries $(PROGRAM)
 
@@ -56,18 +56,6 @@ $(BUILD)/libfowharimu.so.0: $(BUILD)/libfowharimu.a bindings/c/fowharimu.map
 	    -Wl,--whole-archive $(BUILD)/libfowharimu.a -Wl,--no-whole-archive
 	ln -f $@ $(BUILD)/libfowharimu.so
 
-$(BUILD)/fowharimu_openssl.o: bindings/openssl/fowharimu_openssl.c include/fowharimu.h include/fowharimu_openssl.h
-	mkdir -p $(BUILD)
-	$(CC) $(CFLAGS) $(WARNINGS) -fPIC -Iinclude -c -o $@ bindings/openssl/fowharimu_openssl.c
-
-$(BUILD)/libfowharimu_openssl.a: $(BUILD)/fowharimu_openssl.o
-	rm -f $@ && ar rcs $@ $<
-
-$(BUILD)/libfowharimu_openssl.so.0: $(BUILD)/fowharimu_openssl.o $(BUILD)/libfowharimu.so.0 bindings/c/fowharimu.map
-	$(CC) -shared -o $@ -Wl,-soname,libfowharimu_openssl.so.0 -Wl,--version-script,bindings/c/fowharimu.map -Wl,-z,relro,-z,now \
-	    $(BUILD)/fowharimu_openssl.o $(BUILD)/libfowharimu.so.0 -lcrypto
-	ln -f $@ $(BUILD)/libfowharimu_openssl.so
-
 # The prefix may be another than that of the last call, and root's call may have written the file.
 $(BUILD)/%.pc: bindings/c/%.pc.in FORCE
 	mkdir -p $(BUILD) && rm -f $@
@@ -84,11 +72,10 @@ $(BUILD)/fowharimu.1: docs/jwt.1
 
 install: all $(PROGRAM) $(BUILD)/fowharimu.1
 	install -d $(DESTDIR)$(LIBDIR)/pkgconfig $(DESTDIR)$(PREFIX)/include $(DESTDIR)$(PREFIX)/bin $(DESTDIR)$(PREFIX)/share/man/man1
-	install -m 644 include/fowharimu.h include/fowharimu_openssl.h $(DESTDIR)$(PREFIX)/include
-	install -m 644 $(BUILD)/libfowharimu.a $(BUILD)/libfowharimu_openssl.a $(DESTDIR)$(LIBDIR)
-	install -m 755 $(BUILD)/libfowharimu.so.0 $(BUILD)/libfowharimu_openssl.so.0 $(DESTDIR)$(LIBDIR)
+	install -m 644 include/fowharimu.h $(DESTDIR)$(PREFIX)/include
+	install -m 644 $(BUILD)/libfowharimu.a $(DESTDIR)$(LIBDIR)
+	install -m 755 $(BUILD)/libfowharimu.so.0 $(DESTDIR)$(LIBDIR)
 	ln -sf libfowharimu.so.0 $(DESTDIR)$(LIBDIR)/libfowharimu.so
-	ln -sf libfowharimu_openssl.so.0 $(DESTDIR)$(LIBDIR)/libfowharimu_openssl.so
 	install -m 644 $(PACKAGES) $(DESTDIR)$(LIBDIR)/pkgconfig
 	install -m 755 $(PROGRAM) $(DESTDIR)$(PREFIX)/bin/fowharimu
 	install -m 644 $(BUILD)/fowharimu.1 $(DESTDIR)$(PREFIX)/share/man/man1
@@ -107,7 +94,7 @@ $(BUILD)/nginx/Makefile: bindings/nginx/config
 	cd $(NGINX) && bash -c '. ./conf_flags && ./configure --with-cc-opt="$(NGINX_FLAGS)" --with-ld-opt="-Wl,-z,relro -Wl,-z,now" \
 	    "$${NGX_CONF_FLAGS[@]}" --add-dynamic-module=$(CURDIR)/bindings/nginx --builddir=$(CURDIR)/$(BUILD)/nginx' > $(CURDIR)/$(BUILD)/nginx/configure.log
 
-$(BUILD)/nginx/$(MODULE).so: $(BUILD)/nginx/Makefile $(wildcard bindings/nginx/ngx_http_fowharimu*.[ch]) $(BUILD)/libfowharimu.a $(BUILD)/libfowharimu_openssl.a
+$(BUILD)/nginx/$(MODULE).so: $(BUILD)/nginx/Makefile $(wildcard bindings/nginx/ngx_http_fowharimu*.[ch]) $(BUILD)/libfowharimu.a
 	rm -f $@
 	$(MAKE) -C $(NGINX) -f $(CURDIR)/$(BUILD)/nginx/Makefile modules
 

@@ -10,6 +10,8 @@ _jwt() {
         jwk:--alg) choices="HS256 HS384 HS512 RS256 RS384 RS512 PS256 PS384 PS512 ES256 ES384 ES512 EdDSA" ;;
         issue:--form) choices="compact json flattened" ;;
         verify:--policy | verify:--keys | verify:--access | verify:--token | issue:--keys | mac:--key-file | jwk:--file | jwk:--secret | policy:--policy | policy:--keys)
+            # (so that what is a word of bash within a file's name is quoted)
+            compopt -o filenames
             mapfile -t COMPREPLY < <(compgen -f -- "$word")
             return
             ;;
@@ -19,6 +21,7 @@ _jwt() {
         keys:*) choices="--json" ;;
         show:*)
             choices="--limit --json --pretty --now"
+            compopt -o filenames
             mapfile -t COMPREPLY < <(compgen -W "$choices" -- "$word"; compgen -f -- "$word")
             return
             ;;

@@ -1,5 +1,5 @@
 #!/usr/bin/env python3
-"""Holds what wrong_bodies.py makes of the prover's words to words that it has said, and to those words changed; runs no prover.
+"""Holds what refusals.py makes of the prover's words to words that it has said, and to those words changed; runs no prover.
 
 `words.txt` is what the prover said of a copy of rsa_number with twelve wrong bodies and a control. Of each change it is known how many
 of the twelve are clearly refused. It ends with 'N passed, M failed'.
@@ -9,7 +9,7 @@ import pathlib, sys, types
 sys.dont_write_bytecode = True
 HERE = pathlib.Path(__file__).resolve().parent
 sys.path.insert(0, str(HERE))
-import wrong_bodies
+import refusals
 
 # The control, and the functions that the wrong bodies change.
 EDITED = """octets without_zeros
@@ -62,14 +62,14 @@ def group():
     for line in EDITED.splitlines():
         module, name = line.split()
         path = f"src/{module}.rt"
-        function = wrong_bodies.Function(path, name, 0, 0, 0, False)
-        edits.append(wrong_bodies.Edit(pathlib.Path(f"{module}_{name}.edit"), path, {}, function))
-    return wrong_bodies.Group(edits, {})
+        function = refusals.Function(path, name, 0, 0, 0, False)
+        edits.append(refusals.Edit(pathlib.Path(f"{module}_{name}.edit"), path, {}, function))
+    return refusals.Group(edits, {})
 
 
 def main():
-    crate = object.__new__(wrong_bodies.Crate)
-    crate.name, crate.folder = "rsa_number", wrong_bodies.TOP / "crates/rsa_number"
+    crate = object.__new__(refusals.Crate)
+    crate.name, crate.folder = "rsa_number", refusals.TOP / "crates/rsa_number"
     words, failed = (HERE / "words.txt").read_text(), 0
     for name, old, new, status, wanted in CASES:
         is_there = old in words

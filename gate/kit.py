@@ -24,6 +24,11 @@ def version():
     return subprocess.run(["rt", "version"], capture_output=True, text=True, check=True).stdout.strip()
 
 
+def logic():
+    """The sum of the kit's logic, which kits of several letters have in common."""
+    return version().partition(" logic ")[2]
+
+
 @functools.cache
 def loaded():
     """The kit's command as a module."""

@@ -17,8 +17,8 @@ KEPT = TOP / "gate/minutes"
 QUIET = 10
 # At most so many provers run side by side in a build.
 AT_ONCE = 2
-# Of a run of the gate: the minutes by the clock of what follows the proofs and the wrong bodies.
-BEHIND = ("all", "clock")
+# Of a run of the gate: the minutes by the clock of what follows `rt ci`, and the processor minutes of one fixed proof, by which machines compare.
+BEHIND, UNIT = ("all", "clock"), ("all", "unit")
 
 
 def minutes_kept():
@@ -67,7 +67,7 @@ def stands_on():
 
 def of_provers(kept):
     """Of a table of minutes, those of processors."""
-    return {it: took for it, took in kept.items() if it != BEHIND}
+    return {it: took for it, took in kept.items() if it not in (BEHIND, UNIT)}
 
 
 def chain(kept):
@@ -82,11 +82,13 @@ def chain(kept):
     return max((of(it) + kept.get((it, "tests"), 0) for it in below), default=0)
 
 
-def expected(kept):
-    """About how many minutes by the clock a run of the gate takes here from scratch; None where no table of a run is there."""
+def expected(kept, unit=None):
+    """About how many minutes by the clock a run of the gate takes here from scratch; None where no table of a run is there. `unit`: the processor minutes of the
+    fixed proof here."""
     if not kept:
         return None
-    return max(sum(of_provers(kept).values()) / len(os.sched_getaffinity(0)), chain(kept)) + kept.get(BEHIND, 0)
+    slower = unit / kept[UNIT] if unit and kept.get(UNIT) else 1
+    return slower * (max(sum(of_provers(kept).values()) / len(os.sched_getaffinity(0)), chain(kept)) + kept.get(BEHIND, 0))
 
 
 def processors():

@@ -1,13 +1,13 @@
 #!/usr/bin/env python3
 """Compares the recipes of CONTRIBUTING.md with the tree: the files that have a recipe's example are those that it names.
 
-Looked at are the code, the definitions and the proofs of the crates, the headers, the callers' sources and the documents. A recipe begins with "The example
+Looked at are the code, the definitions and the proofs of the crates, the headers, the callers' sources, rows of data and the documents. A recipe begins with "The example
 is", its example's words, and, behind a colon, what they are. It ends with 'N passed, M failed', where a file of a recipe counts as one.
 """
 import pathlib, re, subprocess, sys
 
 TOP = pathlib.Path(__file__).resolve().parent.parent
-LOOKED_AT = re.compile(r"crates/\w+/(?:(?:src|specs|proofs)/|README\.md$)|include/|(?:bindings|tests)/.*\.(c|h|py|go|rs|js|ts|java)$|docs/[^/]*$|README\.md$")
+LOOKED_AT = re.compile(r"crates/\w+/(?:(?:src|specs|proofs)/|README\.md$)|include/|(?:bindings|tests)/.*\.(c|h|py|go|rs|js|ts|java)$|tests/rows/\w+\.txt$|docs/[^/]*$|README\.md$")
 
 
 def recipes():

@@ -18,7 +18,7 @@ VERSIONS = {
     "bindings/python/pyproject.toml": r'^version = "(.*)"',
     "tests/requests/nethttp/go.mod": r"\bfowharimu v(\S+)",
     "bindings/rust/Cargo.toml": r'^version = "(.*)"',
-    "bindings/rust/fowharimu/Cargo.toml": r'\bversion = "([^"]*)", default-features',
+    "bindings/rust/fowharimu/Cargo.toml": r'\bversion = "([^"]*)"',
     "bindings/rust/fowharimu-http/Cargo.toml": r'(?:^|, )version = "([^"]*)"',
     "crates/jwt_command/src/run.rt": r'"jwt (\S+), proved with',
     "packaging/debian/changelog": r"\Afowharimu \((\S+)-\d+\)",

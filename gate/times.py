@@ -81,9 +81,10 @@ class Times:
         self.ends.set()
         self.thread.join()
 
-    def table(self, others):
+    def table(self, others, unit=None):
         """A line for each crate and a column for each part, in processor minutes; what ran without a crate's name stands last.
-        `others` are the processor seconds of all processes that have ended."""
+        `others` are the processor seconds of all processes that have ended; `unit`, where it is known, is the processor minutes of one fixed proof, and
+        the last column has each sum in it."""
         self.stop()
         minutes = self.minutes()
         kinds = [it for it in KINDS if any(k == it for _, k in minutes)]
@@ -97,6 +98,10 @@ class Times:
         rows.append(["other processes", *[""] * len(kinds), f"{max(others / 60 - total, 0):.1f}"])
         sums = [sum(minutes[crate, kind] for crate in crates) for kind in kinds]
         rows.append(["all", *[f"{it:.1f}" for it in sums], f"{max(others / 60, total):.1f}"])
+        if unit:
+            rows[0].append("units")
+            for row in rows[1:]:
+                row.append(f"{float(row[-1]) / unit:.0f}")
         widths = [max(len(row[i]) for row in rows) for i in range(len(rows[0]))]
         for row in rows:
             print("  ".join(it.ljust(w) if i == 0 else it.rjust(w) for i, (it, w) in enumerate(zip(row, widths))))

@@ -2,22 +2,15 @@
  *
  *     fow_validator validator = FOW_VALIDATOR_INIT;
  *     fow_report report;
- *     uint32_t fault, most;
+ *     uint32_t fault;
  *     if (fow_abi() != FOW_ABI) { ... the library that was loaded has another interface than this header }
  *     if (fow_open(&validator, policy, policy_len, keys, keys_len, &fault) != FOW_OK) { ... }
- *     if (fow_most_questions(&validator, &most) != FOW_OK || most > FOW_MOST_QUESTIONS) { ... set `max_calls` in the policy }
- *     while (fow_judge(&validator, token, token_len, now, &report) == FOW_ASKS) {
- *         if (fow_asked(&validator, out, out_len, &asked) != FOW_OK) break;
- *         bool valid = (your own cryptography on asked and out);
- *         if (fow_answer_asked(&validator, valid) != FOW_OK) break;
- *     }
- *     if (report.verdict == FOW_OK) { ... it is accepted; every other verdict is none ... }
- *     fow_forget(&validator); (after each token: your answers are kept until then)
+ *     if (fow_judge(&validator, token, token_len, now, &report) == FOW_OK) { ... it is accepted; every other verdict is none ... }
  *     ... the next token ...
  *     fow_close(&validator);
  *
- * What is proved is said function by function below, and exactly by the clauses in crates/jwt_c/src. Besides, of each call that writes to `out`: with
- * any status but FOW_OK it writes nothing, neither there nor to *written or *asked, and with FOW_OK what stands behind its octets stays as it was. That
+ * Every signature, in every caller, is verified by proved code. What is proved is said function by function below, and exactly by the clauses in crates/jwt_c/src. Besides, of each call that writes to `out`: with
+ * any status but FOW_OK it writes nothing, neither there nor to *written, and with FOW_OK what stands behind its octets stays as it was. That
  * FOW_OUT_OF_MEMORY comes only where memory was refused is tested, and isn't proved. All of it holds for callers that keep to these premises, which C
  * can't check:
  *
@@ -38,7 +31,7 @@
  * memory is refused. Each call ends. Nothing is promised of time, or of keys that are left in memory. An open validator keeps
  * what reading a token needs from one fow_judge to the next: 16 KiB, and room that grows with the longest token that was judged.
  *
- * A thread that calls these functions has at least 128 KiB of stack, what OpenSSL needs aside: JSON may nest 127 levels deep in a token, a
+ * A thread that calls these functions has at least 128 KiB of stack: JSON may nest 127 levels deep in a token, a
  * policy, a key set and claims, and who reads it calls itself for each. (Tested: tests/c/stack.c.) */
 #ifndef FOWHARIMU_H
 #define FOWHARIMU_H
@@ -53,7 +46,7 @@ extern "C" {
 
 /* The number of this interface. It grows with each change of a struct, of a number, or of what a call means, and with each call that goes: so a
  * program that was compiled with this header asks whether the library that it loaded has the same. */
-#define FOW_ABI 4
+#define FOW_ABI 5
 
 /* The number of the interface that the library has: FOW_ABI of the header that it was built with. It needs no validator. It is C, and tested. */
 uint32_t fow_abi(void);
@@ -61,14 +54,10 @@ uint32_t fow_abi(void);
 /* The library's version, such as "0.1.0". It isn't to be freed. It is C, and tested. */
 const char *fow_version(void);
 
-/* The most questions of one token that the callers in Python, Go, Rust, Node and Java let a policy and a key set raise, unless they are told of
- * more (fow_most_questions). */
-#define FOW_MOST_QUESTIONS 64
-
 /* How many keys fow_open prepares at most. */
 #define FOW_PREPARED 16
 
-/* A policy, a key set, your answers on signatures, and the last report. The members are private. */
+/* A policy, a key set, and the last report. The members are private. */
 typedef struct fow_validator {
     void *at;
     bool held;
@@ -76,11 +65,10 @@ typedef struct fow_validator {
 
 #define FOW_VALIDATOR_INIT { NULL, false }
 
-/* What a call answers. Take each but FOW_OK for a refusal. */
+/* What a call answers. Take each but FOW_OK for a refusal. No status is 2. */
 enum fow_status {
     FOW_OK = 0,            /* done; of a verdict: the token is accepted */
     FOW_REFUSED = 1,       /* refused, for the fault that is named */
-    FOW_ASKS = 2,          /* of a verdict alone: it needs to know whether a key made a signature */
     FOW_OUT_OF_MEMORY = 3, /* an allocation was refused */
     FOW_NOT_OPEN = 4,      /* the validator, or what stands beside it, holds nothing */
     FOW_TOO_SHORT = 5,     /* what is to be written has more octets than there is room for */
@@ -128,14 +116,14 @@ enum fow_fault {
 
     /* a ceiling was reached before this signature was tried with this key */
     FOW_WORK_EXCEEDED = 501,  /* the octets of HMAC would exceed the policy's `work` */
-    FOW_CALLS_EXCEEDED = 502, /* there were as many tries as the policy's `max_calls` */
+    FOW_CALLS_EXCEEDED = 502, /* there were as many tries as the policy's `max_calls`, or 64 where it names none */
 
     /* why this signature isn't verified */
     FOW_SIG_ALG_MISSING = 601,     /* the protected header has no text `alg` */
     FOW_SIG_ALG_NONE = 602,        /* `alg` is `none` */
     FOW_SIG_ALG_UNKNOWN = 603,     /* `alg` is unknown */
     FOW_SIG_ALG_NOT_ALLOWED = 604, /* `alg` isn't among the policy's `algs` */
-    FOW_SIG_NO_VERIFIER = 605,     /* no verifier names `alg`; it doesn't come from fow_judge, which asks */
+    FOW_SIG_NO_VERIFIER = 605,     /* no verifier names `alg`; it doesn't come from fow_judge, whose verifiers name each */
     FOW_SIG_KEY_URL = 606,         /* the header has `jku` or `x5u` */
     FOW_SIG_ENC_HEADER = 607,      /* the header has `enc` */
     FOW_SIG_UNENCODED = 608,       /* the header has `b64` (RFC 7797) */
@@ -204,7 +192,7 @@ enum fow_fault {
 
     /* why a proof of possession is none for this request */
     FOW_PROOF_OTHER_METHOD = 1301,       /* `htm` isn't the request's method */
-    FOW_PROOF_OTHER_URI = 1302,          /* `htu` isn't the request's URI, or one of the two is no URI of HTTP */
+    FOW_PROOF_OTHER_URI = 1302,          /* `htu` isn't the request's URI, or one of the two has no normal form */
     FOW_PROOF_OTHER_NONCE = 1303,        /* `nonce` isn't the one that was asked for */
     FOW_PROOF_OTHER_ACCESS_TOKEN = 1304, /* `ath` isn't the hash of the access token that came with it */
     FOW_PROOF_OTHER_KEY = 1305           /* the access token that came with it is bound to another key, or to none */
@@ -229,13 +217,13 @@ enum fow_claim_number {
 
 /* The report on a token. A number that neither the verdict nor the fault names is 0. */
 typedef struct fow_report {
-    uint64_t work;      /* the octets that were fed to HMAC; 0 of FOW_ASKS, though the tries, each with its cost, are there then too */
+    uint64_t work;      /* the octets that were fed to HMAC */
     uint64_t tries;     /* the tries of a key on a signature that were made; fow_try_of gives each */
-    uint32_t verdict;   /* enum fow_status: FOW_OK accepted, FOW_REFUSED, FOW_ASKS, FOW_OUT_OF_MEMORY, FOW_NOT_OPEN */
+    uint32_t verdict;   /* enum fow_status: FOW_OK accepted, FOW_REFUSED, FOW_OUT_OF_MEMORY, FOW_NOT_OPEN */
     uint32_t fault;     /* enum fow_fault: of FOW_REFUSED why */
     uint32_t part;      /* enum fow_part */
-    uint32_t signature; /* a signature's number in the token, from 0: the one that was verified, refused, or is asked about */
-    uint32_t key;       /* a key's number among the readable keys of the set, from 0: the one that verified, or is asked about */
+    uint32_t signature; /* a signature's number in the token, from 0: the one that was verified or refused */
+    uint32_t key;       /* a key's number among the readable keys of the set, from 0: the one that verified */
     uint32_t claim;     /* enum fow_claim_number */
 } fow_report;
 
@@ -278,75 +266,42 @@ enum fow_alg {
     FOW_EDDSA = 13
 };
 
-/* The kind of a key, with its curve. */
-enum fow_kind {
-    FOW_OCT = 1,
-    FOW_RSA = 2,
-    FOW_ED25519 = 255,
-    FOW_P256 = 256,
-    FOW_P384 = 384,
-    FOW_ED448 = 448,
-    FOW_P521 = 521
-};
-
-/* A question: did this key make this signature over this signing input by this algorithm? Its octets stand one after another in
- * what fow_ask writes: the signing input, the signature, the key's first member and its second. The members are the modulus and
- * the exponent of an RSA key, the coordinates x and y of an EC key, x and nothing of an OKP key: as the key set spells them,
- * big-endian. A signature by ES256, ES384 or ES512 is r and s, one after another (RFC 7518, section 3.4), and no DER. */
-typedef struct fow_question {
-    uint32_t alg;     /* enum fow_alg */
-    uint32_t kind;    /* enum fow_kind */
-    size_t input;     /* how many octets the signing input has */
-    size_t signature; /* how many the signature has */
-    size_t first;     /* how many the first member has */
-    size_t second;    /* how many the second member has */
-} fow_question;
-
 /* The form of a token (RFC 7515, section 7). */
 enum fow_form { FOW_COMPACT = 1, FOW_GENERAL = 2, FOW_FLATTENED = 3 };
 
 /* Reads a policy and a key set. Their octets aren't needed any more after the call.
  *
- * Proved: FOW_OK: the policy and the key set that these octets spell are held from now on, and no answers. FOW_REFUSED: *fault
+ * Proved: FOW_OK: the policy, with that ceiling, and the key set that these octets spell are held from now on. FOW_REFUSED: *fault
  * says why the first of the two that is refused is refused. Where the answer isn't FOW_OK, the validator holds what it held.
  *
- * A caller who answers questions sets `max_calls` in the policy: each question is a try, so `max_calls` bounds how many are
- * asked of one token. Without it a token of 32 signatures may raise a question for each of them and each key of the set.
- * fow_most_questions says how many it can be: ask it once after this call, and close the validator where it is more than the service can
- * answer for a stranger. More than FOW_MOST_QUESTIONS are seldom meant.
+ * Each try of a public key costs a verification, some 40 us with RSA of 2,048 bits, and up to 1 ms with 8,192: `max_calls` in the policy bounds how many
+ * are made for one token. Where the policy has no `max_calls`, and allows an algorithm with public keys, 64 are made at most, and then the token is refused
+ * for FOW_CALLS_EXCEEDED; otherwise a token of 32 signatures could have each key of the set tried on each of them.
  *
  * It prepares at most FOW_PREPARED keys: see fow_open_prepared. */
 uint32_t fow_open(fow_validator *validator, const uint8_t *policy, size_t policy_len, const uint8_t *keys, size_t keys_len,
     uint32_t *fault);
 
-/* Reads a policy and a key set as fow_open does, and prepares at most `most` keys for fow_proved_judge and fow_answer_proved: the first ones
- * of the set that are of P-256, P-384, P-521 or Ed25519. A signature by a prepared key is verified in about a third of the time. With 0 none
- * is prepared, as for a service that asks OpenSSL instead.
+/* Reads a policy and a key set as fow_open does, and prepares at most `most` keys: the first ones of the set that are of P-256, P-384, P-521 or Ed25519. A signature by a prepared key is verified in about a third of the time. With 0 none
+ * is prepared.
  *
  * A key costs about 0.7 ms and 64 KB on P-256, 3 ms and 144 KB on P-384, 5 ms and 295 KB on P-521, and 0.3 ms and 140 KB on Ed25519; the first
  * key of a curve costs as much again, for the base point of the curve. RSA and HMAC keys cost nothing. Validators that are opened beside this one
  * (fow_open_beside) share what is prepared. No verdict depends on it. A key for whose preparing memory is refused stays unprepared, and that
  * isn't answered FOW_OUT_OF_MEMORY. (Tested: tests/c/prepared.c.)
  *
- * Proved: FOW_OK: the policy and the key set that these octets spell are held from now on, and no answers. FOW_REFUSED: *fault
+ * Proved: FOW_OK: the policy and the key set that these octets spell are held from now on. FOW_REFUSED: *fault
  * says why the first of the two that is refused is refused. Where the answer isn't FOW_OK, the validator holds what it held. */
 uint32_t fow_open_prepared(fow_validator *validator, const uint8_t *policy, size_t policy_len, const uint8_t *keys, size_t keys_len,
     size_t most, uint32_t *fault);
 
 /* Opens a validator beside another one: on the policy and the key set that the other holds, which aren't read again. The two may be used
  * at the same time by two threads, and closed in any order: the policy and the key set are freed when the last of those that hold them
- * is closed or opened anew. Each has its own answers and its own last judging. While this call runs, it has both to itself.
+ * is closed or opened anew. Each has its own last judging. While this call runs, it has both to itself.
  *
- * Proved: FOW_OK: the policy and the key set that the other holds are held from now on, and no answers. FOW_NOT_OPEN: the other
+ * Proved: FOW_OK: the policy and the key set that the other holds are held from now on. FOW_NOT_OPEN: the other
  * holds nothing. Where the answer isn't FOW_OK, the validator holds what it held. The other holds what it held. */
 uint32_t fow_open_beside(fow_validator *validator, fow_validator *another);
-
-/* How many questions one token can raise: the product of the policy's `max_signatures` and of the keys that an algorithm of public keys in
- * `algs` fits, by kind, curve, `alg`, `use` and `key_ops`; and no more than `max_calls`. It is at most 32,768, and 0 where HMAC alone is
- * verified. Each question costs a verification, some 40 us with RSA of 2,048 bits, and up to 5 ms with 8,192.
- *
- * Proved: FOW_OK: *most is that number. FOW_NOT_OPEN: nothing is held. The validator holds what it held. */
-uint32_t fow_most_questions(fow_validator *validator, uint32_t *most);
 
 /* Writes the name of the member for which a policy is refused (FOW_POLICY_MEMBER, FOW_POLICY_RANGE), in UTF-8, with JSON escapes undone.
  * It reads the policy's octets again, and needs no validator.
@@ -358,46 +313,32 @@ uint32_t fow_refused_member(const uint8_t *policy, size_t policy_len, uint8_t *o
 /* Frees what is held. It may be called twice, and before anything was opened. Proved: the validator holds nothing. */
 void fow_close(fow_validator *validator);
 
-/* Judges a token at a moment, in seconds since 1970-01-01T00:00:00Z. It answers the verdict, which *report has too.
+/* Judges a token at a moment, in seconds since 1970-01-01T00:00:00Z, by HMAC and by this library's own verifiers of RSA (RFC 7518, sections 3.3 and
+ * 3.5), of ECDSA (section 3.4; SEC 1, section 4.1.4; FIPS 186-5, section 6.4.2) and of Ed25519 (RFC 8037, section 3.1), which are proved. It needs no
+ * other library. It answers the verdict, which *report has too.
  *
- * Proved: an acceptance or a refusal, with all that *report says of it, is the verdict of validate's contract on these octets under the
- * policy, the key set and the moment. HMAC is verified; for the other algorithms your answers are believed. Where each answer is right, it
- * is the verdict under what is right. FOW_ASKS: fow_try_of gives the tries of a run in which a pair without an answer counts as invalid,
- * and the report names the first try that has none. FOW_NOT_OPEN: nothing is held, and else it is never answered. Where the answer isn't
- * FOW_OK, no claims and no payload are kept. The policy, the key set and the answers stay.
- *
- * After FOW_ASKS a caller answers the pair that the report names (fow_asked, fow_answer_asked). It may answer the later tries with `cost` 0
- * too, until one is valid (fow_ask, fow_answer, which read the token again): after a valid answer other pairs may be tried, so judge the
- * token again. A token is judged at most once more than it has signatures, however many keys there are. */
-uint32_t fow_judge(fow_validator *validator, const uint8_t *token, size_t token_len, int64_t now, fow_report *report);
-
-/* Judges a token as fow_judge does, by this library's own verifiers of RSA (RFC 7518, sections 3.3 and 3.5), of ECDSA (section 3.4) and
- * of Ed25519 (RFC 8037, section 3.1), which are proved. It asks nothing, needs no other library, and your answers count for nothing.
- * A signature by Ed448 is refused: FOW_SIG_BAD_SIGNATURE.
+ * RSA's keys have 2,048 to 8,192 bits. A signature by Ed25519 (RFC 8032, section 5.1.7) has an S below the group order and an R that is, octet by
+ * octet, the encoding of [S]B - [k]A, and under a key of small order none is accepted. A signature by Ed448 is refused: FOW_SIG_BAD_SIGNATURE.
  *
  * Proved: what is accepted or refused, and all that *report says of it, is the verdict of validate's contract on these octets under the
- * policy, the key set, the moment and these verifiers. It never answers FOW_ASKS. FOW_NOT_OPEN: as of fow_judge. Where the answer isn't
- * FOW_OK, no claims and no payload are kept. The policy, the key set and the answers stay. */
-uint32_t fow_proved_judge(fow_validator *validator, const uint8_t *token, size_t token_len, int64_t now, fow_report *report);
+ * policy, the key set, the moment and these verifiers. FOW_NOT_OPEN: nothing is held, and else it is never answered. Where the answer isn't
+ * FOW_OK, no claims and no payload are kept. The policy and the key set stay. */
+uint32_t fow_judge(fow_validator *validator, const uint8_t *token, size_t token_len, int64_t now, fow_report *report);
 
-/* Remembers accepted tokens from now on: at most `tokens` of those that fow_judge accepts, and as many of those that fow_proved_judge accepts,
- * none longer than `octets` octets. The least used goes first. With 0 tokens nothing is remembered, as after fow_open and fow_open_beside.
- * This call forgets the tokens remembered so far; fow_forget doesn't. A validator that is opened beside another has a memory of its own.
+/* Remembers accepted tokens from now on: at most `tokens`, none longer than `octets` octets. The least used goes first. With 0 tokens nothing is remembered, as after fow_open and fow_open_beside.
+ * This call forgets the tokens remembered so far. A validator that is opened beside another has a memory of its own.
  *
- * A remembered token is found by all its octets, and only its claims are checked again: nothing is hashed, nothing asked. The report has the
+ * A remembered token is found by all its octets, and only its claims are checked again: nothing is hashed, and no signature is verified. The report has the
  * tries and the work of the judging that accepted it, and the verdict on its claims at the new moment; fow_remembered says that nothing was
  * paid now. Only accepted tokens in compact form are remembered, so only other accepted tokens push one out.
  *
- * The memory of fow_judge rests on your answers at the time when a token was accepted: a wrong answer stays wrong for as long as that token is
- * remembered, also after fow_forget, and spoils no other. Accepted tokens, their claims and their payloads lie in memory until they go, and aren't wiped.
+ * Accepted tokens, their claims and their payloads lie in memory until they go, and aren't wiped.
  * One of 179 octets takes some 950 octets in all, one of 1,300 with 26 claims some 4,200. Where there is no memory to keep one, it isn't kept, and the verdict
  * is the same. A kept token that has expired is refused by its claims, and stays until others push it out.
  *
  * Proved: FOW_OK: so many tokens of so many octets are remembered from now on, none yet, and nothing else has changed. FOW_NOT_OPEN: nothing is
  * held. Where the answer isn't FOW_OK, the validator holds what it held. And of every judging: it remembers nothing new but its own token, where it
- * answers FOW_OK. A verdict of fow_proved_judge is the one that its contract says, remembered or not. A remembered verdict of fow_judge is what the
- * token's claims come to now, by your answers at the time when it was accepted: the verdict under what is right, where those were right. A verdict is
- * remembered only where the memory holds all octets of the token. (That it is remembered, and that the least used goes first, is tested.) */
+ * answers FOW_OK. A verdict is the one that fow_judge's contract says, remembered or not. It is remembered only where the memory holds all octets of the token. (That it is remembered, and that the least used goes first, is tested.) */
 uint32_t fow_remember(fow_validator *validator, size_t tokens, size_t octets);
 
 /* Whether the last verdict came out of a memory: then nothing was tried and nothing paid for it, though fow_try_of gives the tries that were paid
@@ -410,7 +351,7 @@ bool fow_remembered(fow_validator *validator);
  * nothing is held. The validator holds what it held. */
 uint32_t fow_state_of(fow_validator *validator, uint32_t signature, fow_state *state);
 
-/* Try `n`, from 0, of the last judging; after FOW_ASKS of the run that fow_judge speaks of. Proved as with fow_state_of. */
+/* Try `n`, from 0, of the last judging. Proved as with fow_state_of. */
 uint32_t fow_try_of(fow_validator *validator, uint64_t n, fow_try *tried);
 
 /* The name of the claim that the last judging found missing (FOW_CLAIM_MISSING), as the policy spells it.
@@ -418,48 +359,6 @@ uint32_t fow_try_of(fow_validator *validator, uint64_t n, fow_try *tried);
  * Proved: FOW_OK: `out` begins with that name, which has *written octets. FOW_ABSENT: it found none missing, or one whose name is empty.
  * FOW_NOT_OPEN: nothing is held. The validator holds what it held. */
 uint32_t fow_refused_claim(fow_validator *validator, uint8_t *out, size_t out_len, size_t *written);
-
-/* Writes the question of the last judging at the front of `out`: that about the pair that its report names. The length of the token and
- * 16,384 octets are always enough.
- *
- * Proved: FOW_OK: `out` begins with the question whether that key made that signature of the token that was judged, and *asked has its
- * sizes. FOW_ABSENT: the last judging asked nothing, or that is answered. FOW_NOT_OPEN: nothing is held. The validator holds what it held. */
-uint32_t fow_asked(fow_validator *validator, uint8_t *out, size_t out_len, fow_question *asked);
-
-/* Tells whether the key made the signature that the last judging asks about. Later verdicts rest on it as on fow_answer.
- *
- * Proved: FOW_OK: exactly this answer is added to those before. Else the answers are as before. FOW_ABSENT: the last judging asked
- * nothing, or that is answered. FOW_NOT_OPEN: nothing is held. What else is kept of the last judging stays, and it asks nothing more. */
-uint32_t fow_answer_asked(fow_validator *validator, bool valid);
-
-/* Writes a question at the front of `out`. The token's length and 16,384 octets are always enough. A secret is never written, nor anything else
- * where the answer isn't FOW_OK: no question is about HMAC or about a key of kind `oct`.
- *
- * Proved: FOW_OK: `out` begins with the question whether key `key` of the set made signature `signature` of the token, and
- * *asked has its sizes. FOW_ABSENT: the octets are no token, there is no such pair, its algorithm is HMAC, or its key is a secret. FOW_NOT_OPEN:
- * nothing is held. The validator holds what it held. */
-uint32_t fow_ask(fow_validator *validator, const uint8_t *token, size_t token_len, uint32_t signature, uint32_t key, uint8_t *out,
-    size_t out_len, fow_question *asked);
-
-/* Tells whether the key made the signature. Later verdicts rest on it, for this algorithm, key, signing input and
- * signature alone. Where the same question is answered twice, the first answer counts.
- *
- * Proved: FOW_OK: exactly this answer is added to those before. Else the answers are as before. FOW_ABSENT: the octets are no token,
- * or there is no such pair. FOW_NOT_OPEN: nothing is held. What is kept of the last judging stays. */
-uint32_t fow_answer(fow_validator *validator, const uint8_t *token, size_t token_len, uint32_t signature, uint32_t key, bool valid);
-
-/* Tells what this library's proved verifiers say of the signature, in place of fow_ask and fow_answer: the one of RSA, of ECDSA or of Ed25519 that
- * names its algorithm. That of RSA accepts what RFC 8017 does, with keys of 2,048 to 8,192 bits; that of ECDSA is for ES256, ES384 and ES512 (SEC 1,
- * section 4.1.4; FIPS 186-5, section 6.4.2); that of Ed25519 (RFC 8032, section 5.1.7) accepts a signature whose S is below the group order and whose R
- * is, octet by octet, the encoding of [S]B - [k]A, and under a key of small order none.
- *
- * Proved: FOW_OK: exactly that answer is added to those before. Else the answers are as before. FOW_ABSENT: the octets are no token, there is no such
- * pair, its algorithm is HMAC, or its key is of the curve Ed448. FOW_NOT_OPEN: nothing is held. What is kept of the last judging stays. */
-uint32_t fow_answer_proved(fow_validator *validator, const uint8_t *token, size_t token_len, uint32_t signature, uint32_t key);
-
-/* Forgets your answers: do so from time to time, since all of them are kept until then. Proved: no answer is kept, and the policy
- * and the key set are as before. What is kept of the last judging stays. */
-void fow_forget(fow_validator *validator);
 
 /* Writes the octets of the payload of the token that was accepted last, which were kept when it was judged: nothing is read again, and it takes no
  * memory. A payload has fewer octets than its token.
@@ -653,8 +552,8 @@ uint32_t fow_once_take(fow_once *once, fow_validator *validator, int64_t now, ui
 #define FOW_MARK_LEN 32
 
 /* Tells how the token that was accepted last is held, for a store that several processes share, and takes nothing: `mark` begins with the digest of its issuer
- * and `jti`, of FOW_MARK_LEN octets, and *until is the last moment at which it counts, `exp` and the policy's leeway. The store says in one step that the mark is
- * new, and holds it until then.
+ * and `jti`, of FOW_MARK_LEN octets, and *until is the last moment at which it counts, `exp` and the policy's leeway. No issuer and an empty one have one mark. The
+ * store says in one step that the mark is new, and holds it until then.
  *
  * Proved: FOW_OK: they are those by which fow_once_take holds it. FOW_REFUSED: it can't be held, and *lacks says why: FOW_TAKEN_NO_ID or FOW_TAKEN_NO_END.
  * FOW_TOO_SHORT: mark_len is less than FOW_MARK_LEN. FOW_ABSENT: the last verdict was no acceptance. FOW_NOT_OPEN: nothing is held. The validator holds what it
@@ -670,7 +569,7 @@ void fow_once_close(fow_once *once);
  *
  *     fow_possession possession = FOW_POSSESSION_INIT;
  *     if (fow_possession_open(&possession, policy, policy_len, &fault) != FOW_OK) { ... }
- *     ... fow_proved_judge accepts the access token; then, with the value of the request's only header `DPoP`:
+ *     ... fow_judge accepts the access token; then, with the value of the request's only header `DPoP`:
  *     if (fow_possession_judge(&possession, &validator, proof, proof_len, method, method_len, uri, uri_len, nonce, nonce_len, token, token_len, now, &fault) != FOW_OK) { ... 401 }
  *     if (fow_possession_take(&possession, &once, now, &taken) != FOW_OK) { ... 401 }
  *     fow_possession_close(&possession);
@@ -697,6 +596,10 @@ uint32_t fow_possession_open(fow_possession *possession, const uint8_t *policy, 
  * one that you asked for, and where nonce_len is 0 none was. `token` is the access token that came with the proof, once more, and the claims that it is
  * bound by are those that `validator` accepted last, so judge the access token before. Where token_len is 0 none came, as in a request for one
  * (section 5): then `ath` and `cnf` aren't looked at, nor is the validator, which may hold nothing.
+ *
+ * The URI and `htu` are compared by their normal forms (RFC 3986, sections 6.2.2 and 6.2.3), without query and fragment. A text has one where it begins with
+ * `http://` or `https://`, in any case; where up to the next slash stand a host that isn't empty, and nothing, a colon, or a colon and digits, and no `@`; and where
+ * two hexadecimal digits stand behind each percent sign. Nothing else of it is looked at, such as which octets a host has, or how great the port is.
  *
  * A proof that is accepted may come again: let the request through only where fow_possession_take answers FOW_OK as well. What a service answers to another status says
  * fow_proof_outcome: 401 to FOW_REFUSED, with `DPoP error="use_dpop_nonce"` to FOW_PROOF_OTHER_NONCE (section 9), `error="invalid_token"` to FOW_PROOF_OTHER_KEY, else
@@ -876,8 +779,8 @@ uint32_t fow_challenge(uint32_t scheme, uint32_t challenge, const uint8_t *realm
 
 /* Keys by URL: when they are fetched, until when they are used, and who waits for a fetch. Nothing here opens a socket, reads a clock, takes memory or a
  * lock. The struct is the caller's, who makes one call on it at a time, and reads the clock under the lock that it holds for that: moments out of order make
- * ages grow too fast. Times and moments are milliseconds, of any clock; a time of UINT64_MAX is never over. Whatever numbers stand in the struct, each
- * call ends; what is proved is proved of one that these calls alone have changed. It may stand in memory that processes share.
+ * ages grow too fast. Times and moments are milliseconds, of any clock; a time of UINT64_MAX is over after 584 million years. Whatever numbers stand in the
+ * struct, each call ends; what is proved is proved of one that these calls alone have changed. It may stand in memory that processes share.
  *
  * What happened is told by these calls: a fetch begins where fow_renewal_ask says so, and ends where fow_renewal_took or fow_renewal_failed is called. Its
  * ticket is its number, and that of its keys. */
@@ -915,7 +818,7 @@ enum fow_asker {
 void fow_renewal_begin(fow_renewal *renewal, uint64_t refresh_after, uint64_t cool_down, uint64_t max_age, uint64_t timeout, uint64_t now);
 
 /* Which keys are to be used, and whether a fetch begins. `keys` is looked at for FOW_ASKER_REFUSED alone: it is the ticket of the keys by which the token
- * was refused.
+ * was refused, and 0 where there were none.
  *
  * Proved: keys are named exactly where their fetch began less than max_age ago, and they are those that were taken last. A fetch begins exactly where it is
  * wanted, none is under way, and, unless the owner asks, every fetch so far began at least a cool_down ago. */
@@ -988,7 +891,7 @@ uint32_t fow_url_of(const uint8_t *url, size_t url_len, bool allows_http, fow_ur
  * nothing.
  *
  * Proved: FOW_OK: `out` begins with the URL, which has *written octets and the scheme, host and port of the one that was asked. FOW_REFUSED: it leads
- * elsewhere, or to no URL, or has a segment `.` or `..` in its path. */
+ * elsewhere, or to no URL, or has a part `.` or `..` between two slashes or at an end, as a segment of its path or as its host. */
 uint32_t fow_redirected(const uint8_t *url, size_t url_len, const uint8_t *location, size_t location_len, uint8_t *out, size_t out_len,
     size_t *written);
 

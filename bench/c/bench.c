@@ -1,8 +1,7 @@
 /* bench HMAC RSA [EC]: the least time of a call, in microseconds of processor time, on a token by HMAC and one by RS256, of tokens that are remembered, and of an
  * access rule. With one by ES256
  * this and that by RS256 are also judged by 1,024 keys of which none made the signature, where a caller says so without cryptography. */
-#include <fowharimu_openssl.h>
-#include <openssl/evp.h>
+#include <fowharimu.h>
 #include <time.h>
 
 #include "octets.h"
@@ -43,71 +42,46 @@ static void open_named(fow_validator *validator, const char *name)
 }
 
 /* Judges the token, and writes its payload. */
-static void validate(fow_openssl *crypto, fow_validator *validator)
+static void validate(fow_validator *validator)
 {
     static uint8_t out[MOST];
     fow_report report;
     size_t written;
-    CHECK(fow_openssl_judge(crypto, validator, token.at, token.len, NOW, &report) == FOW_OK);
+    CHECK(fow_judge(validator, token.at, token.len, NOW, &report) == FOW_OK);
     CHECK(fow_accepted_payload(validator, out, sizeof out, &written) == FOW_OK);
 }
 
 static void time_hmac(const char *name)
 {
     fow_validator validator = FOW_VALIDATOR_INIT;
-    fow_openssl crypto = FOW_OPENSSL_INIT;
     fow_report report;
     open_named(&validator, name);
     TIME("HS256 verdict", 200, CHECK(fow_judge(&validator, token.at, token.len, NOW, &report) == FOW_OK));
-    TIME("HS256 claims", 200, validate(&crypto, &validator));
-    fow_openssl_clear(&crypto);
+    TIME("HS256 claims", 200, validate(&validator));
     fow_close(&validator);
-}
-
-/* What OpenSSL alone takes for the question that the token raises. */
-static void time_openssl(const fow_question *asked, const uint8_t *octets, EVP_PKEY *key)
-{
-    TIME("RS256 EVP_DigestVerify", 20, EVP_MD_CTX *context = EVP_MD_CTX_new();
-         CHECK(EVP_DigestVerifyInit(context, NULL, EVP_sha256(), NULL, key) == 1);
-         CHECK(EVP_DigestVerify(context, octets + asked->input, asked->signature, octets, asked->input) == 1);
-         EVP_MD_CTX_free(context));
 }
 
 static void time_rsa(const char *name)
 {
-    static uint8_t out[MOST];
     fow_validator validator = FOW_VALIDATOR_INIT;
-    fow_openssl crypto = FOW_OPENSSL_INIT;
     fow_report report;
-    fow_question asked;
     open_named(&validator, name);
-    TIME("RS256 verdict", 20, CHECK(fow_openssl_judge(&crypto, &validator, token.at, token.len, NOW, &report) == FOW_OK));
-    TIME("RS256 claims", 20, validate(&crypto, &validator));
-    TIME("RS256 verdict, fow_answer_proved", 20, fow_forget(&validator);
-         fow_judge(&validator, token.at, token.len, NOW, &report);
-         fow_answer_proved(&validator, token.at, token.len, 0, 0);
-         CHECK(fow_judge(&validator, token.at, token.len, NOW, &report) == FOW_OK));
-    CHECK(fow_ask(&validator, token.at, token.len, 0, 0, out, sizeof out, &asked) == FOW_OK);
-    /* (a key that is kept begins with OpenSSL's) */
-    time_openssl(&asked, out, *(EVP_PKEY **)crypto.keys);
-    fow_openssl_clear(&crypto);
+    TIME("RS256 verdict", 20, CHECK(fow_judge(&validator, token.at, token.len, NOW, &report) == FOW_OK));
+    TIME("RS256 claims", 20, validate(&validator));
     fow_close(&validator);
 }
 
-/* A token that is remembered, by the loop over OpenSSL's answers or by the proved verifiers, and with its payload. */
-static void time_remembered(const char *label, const char *by_proof, const char *claims, const char *name)
+/* A token that is remembered, and with its payload. */
+static void time_remembered(const char *label, const char *claims, const char *name)
 {
     fow_validator validator = FOW_VALIDATOR_INIT;
-    fow_openssl crypto = FOW_OPENSSL_INIT;
     fow_report report;
     open_named(&validator, name);
     CHECK(fow_remember(&validator, 1000, 4096) == FOW_OK);
-    TIME(label, 200, CHECK(fow_openssl_judge(&crypto, &validator, token.at, token.len, NOW, &report) == FOW_OK));
-    TIME(by_proof, 200, CHECK(fow_proved_judge(&validator, token.at, token.len, NOW, &report) == FOW_OK));
+    TIME(label, 200, CHECK(fow_judge(&validator, token.at, token.len, NOW, &report) == FOW_OK));
     CHECK(fow_remembered(&validator));
-    TIME(claims, 200, validate(&crypto, &validator));
+    TIME(claims, 200, validate(&validator));
     CHECK(fow_remembered(&validator));
-    fow_openssl_clear(&crypto);
     fow_close(&validator);
 }
 
@@ -171,19 +145,6 @@ static void time_access(const char *name)
     fow_close(&validator);
 }
 
-/* Tells that no key made the signature, one try after another. */
-static void deny_each(fow_validator *validator, uint64_t tries)
-{
-    static uint8_t out[2 * MOST];
-    fow_question asked;
-    fow_try tried;
-    for (uint64_t n = 0; n < tries; n++) {
-        CHECK(fow_try_of(validator, n, &tried) == FOW_OK);
-        CHECK(fow_ask(validator, token.at, token.len, tried.signature, tried.key, out, sizeof out, &asked) == FOW_OK);
-        CHECK(fow_answer(validator, token.at, token.len, tried.signature, tried.key, false) == FOW_OK);
-    }
-}
-
 /* Each key is tried, so the policy allows as many calls. */
 static void time_many(const char *label, const char *name, const char *member, const char *alg)
 {
@@ -196,9 +157,7 @@ static void time_many(const char *label, const char *name, const char *member, c
     read_named(&token, name, "jwt");
     size_t len = other_keys(set, KEYS_MOST, &keys, member, KEYS);
     CHECK(fow_open(&validator, policy.at, policy.len, (const uint8_t *)set, len, &fault) == FOW_OK);
-    TIME(label, 1, fow_forget(&validator);
-         while (fow_judge(&validator, token.at, token.len, NOW, &report) == FOW_ASKS)
-             deny_each(&validator, report.tries));
+    TIME(label, 1, fow_judge(&validator, token.at, token.len, NOW, &report));
     CHECK(report.verdict == FOW_REFUSED && report.fault == FOW_SIG_BAD_SIGNATURE && report.tries == KEYS);
     fow_close(&validator);
 }
@@ -208,8 +167,8 @@ int main(int argc, char **argv)
     CHECK(argc == 3 || argc == 4);
     time_hmac(argv[1]);
     time_rsa(argv[2]);
-    time_remembered("HS256 verdict, remembered", "HS256 verdict by proof, remembered", "HS256 claims, remembered", argv[1]);
-    time_remembered("RS256 verdict, remembered", "RS256 verdict by proof, remembered", "RS256 claims, remembered", argv[2]);
+    time_remembered("HS256 verdict, remembered", "HS256 claims, remembered", argv[1]);
+    time_remembered("RS256 verdict, remembered", "RS256 claims, remembered", argv[2]);
     time_users(argv[1], 2);
     time_users(argv[1], 24);
     time_access(argv[1]);

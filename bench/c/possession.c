@@ -80,11 +80,11 @@ int main(int count, char **words)
     CHECK(fow_open_prepared(&by_key, at(policy), sizeof policy - 1, at(key), sizeof key - 1, 0, &fault) == FOW_OK);
     CHECK(fow_open_prepared(&by_kid, at(asks_kid), sizeof asks_kid - 1, at(key), sizeof key - 1, 0, &fault) == FOW_OK);
     CHECK(fow_possession_open(&possession, at(proofs), sizeof proofs - 1, &fault) == FOW_OK);
-    CHECK(fow_proved_judge(&bearer, at(token), strlen(token), NOW_OF_ROW, &report) == FOW_OK);
+    CHECK(fow_judge(&bearer, at(token), strlen(token), NOW_OF_ROW, &report) == FOW_OK);
     LEAST(held, 2, CHECK(fow_possession_judge(&possession, &bearer, at(proof), strlen(proof), at(method), strlen(method), at(uri), strlen(uri), at(""), 0,
                              at(token), strlen(token), NOW_OF_ROW, &fault) == FOW_OK));
-    LEAST(whole, 2, CHECK(fow_proved_judge(&by_key, at(least_token), sizeof least_token - 1, NOW_OF_TOKEN, &report) == FOW_OK));
-    LEAST(unread, 100, CHECK(fow_proved_judge(&by_kid, at(least_token), sizeof least_token - 1, NOW_OF_TOKEN, &report) == FOW_REFUSED));
+    LEAST(whole, 2, CHECK(fow_judge(&by_key, at(least_token), sizeof least_token - 1, NOW_OF_TOKEN, &report) == FOW_OK));
+    LEAST(unread, 100, CHECK(fow_judge(&by_kid, at(least_token), sizeof least_token - 1, NOW_OF_TOKEN, &report) == FOW_REFUSED));
     LEAST(nonce, 100, CHECK(fow_nonce(at(secret), sizeof secret - 1, 60, NOW_OF_ROW, out, sizeof out, &written) == FOW_OK));
     LEAST(fresh, 100, CHECK(fow_possession_fresh(&possession, at(secret), sizeof secret - 1, 60, NOW_OF_ROW) == FOW_NOT_EXPECTED));
     printf("a proof %.1f\nits signature %.1f\nbeside its signature %.1f\na nonce %.2f\nwhether it is fresh %.2f\n", held, whole - unread, held - whole + unread, nonce, fresh);

@@ -2,7 +2,7 @@
  * payload, in bursts of so many seconds with pauses between them. It prints how many calls a second they made in a burst in which no thread was switched out
  * or began late, the median of these bursts, and how many there were. */
 #define _GNU_SOURCE
-#include <fowharimu_openssl.h>
+#include <fowharimu.h>
 #include <pthread.h>
 #include <string.h>
 #include <sys/resource.h>
@@ -46,7 +46,7 @@ static void wait_until(double moment)
 }
 
 /* The calls a second of a burst that begins at this moment; 0 where the thread was disturbed. */
-static double rate_of(task *mine, fow_openssl *crypto, double start)
+static double rate_of(task *mine, double start)
 {
     fow_report report;
     uint8_t out[MOST];
@@ -56,7 +56,7 @@ static double rate_of(task *mine, fow_openssl *crypto, double start)
     bool is_late = began - start > burst / 8;
     while (now() < start + burst) {
         for (int i = 0; i < CALLS; i++) {
-            CHECK(fow_openssl_judge(crypto, &mine->validator, token.at, token.len, NOW, &report) == FOW_OK);
+            CHECK(fow_judge(&mine->validator, token.at, token.len, NOW, &report) == FOW_OK);
             CHECK(fow_accepted_payload(&mine->validator, out, sizeof out, &written) == FOW_OK);
         }
         calls += CALLS;
@@ -68,13 +68,11 @@ static double rate_of(task *mine, fow_openssl *crypto, double start)
 static void *judge(void *at)
 {
     task *mine = at;
-    fow_openssl crypto = FOW_OPENSSL_INIT;
     double period = burst + PAUSE;
     for (long n = (long)(now() / period) + 1, i = 0; i < BURSTS_MOST && (double)n * period < end; n++, i++) {
         wait_until((double)n * period);
-        mine->rates[n % BURSTS_MOST] = rate_of(mine, &crypto, (double)n * period);
+        mine->rates[n % BURSTS_MOST] = rate_of(mine, (double)n * period);
     }
-    fow_openssl_clear(&crypto);
     return NULL;
 }
 

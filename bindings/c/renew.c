@@ -1,7 +1,7 @@
 /* renew NAME KEYS ..: exchanges key sets while threads judge. NAME is the name of a token with its key set and policy, and each KEYS a file with
  * another set that has its key. Who has keys at a URL fetches them by a client of its own, as docs/REMOTE-KEYS.md says, and does here what it does with the
  * octets: a new set is a new validator, beside which each thread opens its own when it judges next. No token is judged by a mixture. */
-#include <fowharimu_openssl.h>
+#include <fowharimu.h>
 #include <pthread.h>
 
 #include "octets.h"
@@ -18,7 +18,6 @@ typedef struct keys {
 /* What one thread judges with. */
 typedef struct seat {
     fow_validator validator;
-    fow_openssl crypto;
     unsigned taken;
 } seat;
 
@@ -57,18 +56,17 @@ static uint32_t judge(keys *by, seat *it, fow_report *report)
     pthread_mutex_unlock(&by->lock);
     if (status != FOW_OK)
         return status;
-    return fow_openssl_judge(&it->crypto, &it->validator, token.at, token.len, NOW, report);
+    return fow_judge(&it->validator, token.at, token.len, NOW, report);
 }
 
 static void *judge_on(void *count)
 {
-    seat mine = { FOW_VALIDATOR_INIT, FOW_OPENSSL_INIT, 0 };
+    seat mine = { FOW_VALIDATOR_INIT, 0 };
     fow_report report;
     while (!__atomic_load_n(&is_over, __ATOMIC_SEQ_CST)) {
         CHECK(judge(&all, &mine, &report) == FOW_OK);
         ++*(long *)count;
     }
-    fow_openssl_clear(&mine.crypto);
     fow_close(&mine.validator);
     return NULL;
 }

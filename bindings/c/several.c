@@ -6,7 +6,7 @@
  *
  * A token is judged by the validator of the issuer that it names, which nobody has verified by then: so the policy of each allows exactly the issuer
  * under which it stands, and checks it again. The policy with the least limit says what is a token. */
-#include <fowharimu_openssl.h>
+#include <fowharimu.h>
 
 #include "octets.h"
 
@@ -16,7 +16,6 @@ enum { MOST_ISSUERS = 16, LINE = 65536 };
 typedef struct entry {
     const char *issuer;
     fow_validator validator;
-    fow_openssl crypto;
 } entry;
 
 typedef struct issuers {
@@ -78,17 +77,15 @@ static const char *fault_of(issuers *by, const octets *token, int64_t now)
     entry *it = chosen(by, token);
     if (it == NULL)
         return fow_fault_name(FOW_CLAIM_ISSUER);
-    uint32_t verdict = fow_openssl_judge(&it->crypto, &it->validator, token->at, token->len, now, &report);
+    uint32_t verdict = fow_judge(&it->validator, token->at, token->len, now, &report);
     CHECK(verdict == FOW_OK || verdict == FOW_REFUSED);
     return fow_fault_name(report.fault);
 }
 
 static void close_all(issuers *it)
 {
-    for (size_t i = 0; i < it->count; i++) {
-        fow_openssl_clear(&it->all[i].crypto);
+    for (size_t i = 0; i < it->count; i++)
         fow_close(&it->all[i].validator);
-    }
     memset(it, 0, sizeof *it);
 }
 

@@ -4,7 +4,7 @@
  * the claims, or why the token is refused. Ends with 0 where it is accepted, 1 where it isn't, 2 for wrong words, 3 for a file that
  * can't be read, 4 where another library was loaded than the program was compiled for. */
 #include <errno.h>
-#include <fowharimu_openssl.h>
+#include <fowharimu.h>
 #include <inttypes.h>
 #include <stdio.h>
 #include <stdlib.h>
@@ -76,25 +76,20 @@ int main(int argc, char **argv)
     octets policy = read_file(argv[1]), keys = read_file(argv[2]), token = read_file(argv[3]);
     int64_t now = argc == 5 ? moment_of(argv[4]) : (int64_t)time(NULL);
     fow_validator validator = FOW_VALIDATOR_INIT;
-    fow_openssl crypto = FOW_OPENSSL_INIT;
     fow_report report = { 0 };
 
-    uint32_t most = 0, verdict = fow_open(&validator, policy.at, policy.len, keys.at, keys.len, &report.fault);
+    uint32_t verdict = fow_open(&validator, policy.at, policy.len, keys.at, keys.len, &report.fault);
     if (verdict != FOW_OK) {
         report.verdict = verdict;
         print_refusal("not opened", &report);
-    } else if (fow_most_questions(&validator, &most) != FOW_OK || most > FOW_MOST_QUESTIONS) {
-        fprintf(stderr, "validate: one token could raise %" PRIu32 " questions about public keys: set max_calls in the policy\n", most);
-        verdict = FOW_REFUSED;
     } else {
-        verdict = fow_openssl_judge(&crypto, &validator, token.at, token.len, now, &report);
+        verdict = fow_judge(&validator, token.at, token.len, now, &report);
         if (verdict == FOW_OK)
             print_claims(&validator, token);
         else
             print_refusal("refused", &report);
     }
 
-    fow_openssl_clear(&crypto);
     fow_close(&validator);
     free(policy.at);
     free(keys.at);

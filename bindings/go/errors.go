@@ -22,17 +22,6 @@ func (e *LibraryError) Error() string {
 	return fmt.Sprintf("fowharimu: the library %s has interface %d, and this package was compiled for %d", e.Version, e.Loaded, e.MadeFor)
 }
 
-// QuestionsError says that one token could have OpenSSL asked Most times under the policy and its keys, and that Allowed are taken. A
-// smaller max_calls in the policy bounds it, or fewer keys do.
-type QuestionsError struct {
-	Most    int
-	Allowed int
-}
-
-func (e *QuestionsError) Error() string {
-	return fmt.Sprintf("fowharimu: one token could raise %d questions about public keys, and %d are taken: set max_calls in the policy", e.Most, e.Allowed)
-}
-
 // PolicyError says why a policy is refused.
 type PolicyError struct {
 	Fault  string // the name that the program jwt prints, such as Range
@@ -55,8 +44,8 @@ func (e *KeysError) Error() string {
 	return "fowharimu: the key set is refused: " + e.Fault
 }
 
-// Refusal is the error of a token that isn't accepted: a *TooLongError, *FormError, *CeilingError, *SignatureError, *ClaimsError or
-// *UndecidedError; a *NotExpectedError where the call expects something else, a *NotHeldError where its sender hasn't shown the key that it is bound to, a
+// Refusal is the error of a token that isn't accepted: a *TooLongError, *FormError, *CeilingError, *SignatureError or *ClaimsError;
+// a *NotExpectedError where the call expects something else, a *NotHeldError where its sender hasn't shown the key that it is bound to, a
 // *NotTakenError where it, or its proof, counts once, and a *TooOldError of keys by URL.
 // errors.As finds it. Another error says nothing of the token.
 type Refusal interface {
@@ -96,12 +85,6 @@ type ClaimsError struct {
 	Claim string // the name of the claim that the fault speaks of; empty where it speaks of none
 }
 
-// UndecidedError says that OpenSSL couldn't tell whether a key made a signature, both numbered from 0: so the token isn't accepted.
-type UndecidedError struct {
-	Signature int
-	Key       int
-}
-
 func (e *TooLongError) Error() string { return refusedFor(e.Fault) }
 
 func (e *FormError) Error() string {
@@ -126,10 +109,6 @@ func (e *ClaimsError) Error() string {
 	return fmt.Sprintf("%s, claim %q", refusedFor(e.Fault), e.Claim)
 }
 
-func (e *UndecidedError) Error() string {
-	return fmt.Sprintf("fowharimu: signature %d couldn't be tried with key %d", e.Signature, e.Key)
-}
-
 // FaultName is TooLong.
 func (e *TooLongError) FaultName() string { return e.Fault }
 
@@ -144,9 +123,6 @@ func (e *SignatureError) FaultName() string { return e.Fault }
 
 // FaultName is the fault.
 func (e *ClaimsError) FaultName() string { return e.Fault }
-
-// FaultName is Undecided, which the program doesn't print: it asks no one.
-func (e *UndecidedError) FaultName() string { return "Undecided" }
 
 func refusedFor(fault string) string {
 	return "fowharimu: the token is refused: " + fault

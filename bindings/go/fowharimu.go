@@ -1,4 +1,4 @@
-// Package fowharimu validates JSON Web Tokens (RFC 7519) by a library that is proved correct, and public-key signatures by OpenSSL.
+// Package fowharimu validates JSON Web Tokens (RFC 7519) by a library that is proved correct.
 //
 //	validator, err := fowharimu.Open(policy, keys)
 //	...
@@ -43,21 +43,14 @@ type terms struct {
 type Option func(*options)
 
 type options struct {
-	questions int
-	remember  memory
-	once      *Once
-	takes     bool // tokens count once
+	remember memory
+	once     *Once
+	takes    bool // tokens count once
 }
 
 // memory is how many tokens of how many octets each seat remembers.
 type memory struct {
 	tokens, octets uint
-}
-
-// MostQuestions has Open take a policy and a key set under which OpenSSL may be asked so often for one token. Without it that is 64; it is
-// never more than 32,768. More than 64 are seldom meant: max_calls in the policy bounds them.
-func MostQuestions(most int) Option {
-	return func(o *options) { o.questions = most }
 }
 
 // Remember has the validator remember so many accepted tokens, none longer than so many octets; the least used goes first. One that comes again
@@ -67,13 +60,13 @@ func Remember(tokens, octets uint) Option {
 	return func(o *options) { o.remember = memory{tokens, octets} }
 }
 
-// Open reads a policy and a key set. The error is a *PolicyError, a *KeysError, a *QuestionsError, ErrOutOfMemory, ErrOnce where Taking is handed nil, or
+// Open reads a policy and a key set. The error is a *PolicyError, a *KeysError, ErrOutOfMemory, ErrOnce where Taking is handed nil, or
 // a *LibraryError where another library was loaded than this package was compiled for.
 func Open(policy, keys []byte, how ...Option) (*Validator, error) {
 	if err := compare(); err != nil {
 		return nil, err
 	}
-	chosen := options{questions: defaultQuestions}
+	var chosen options
 	for _, choose := range how {
 		choose(&chosen)
 	}
@@ -81,7 +74,7 @@ func Open(policy, keys []byte, how ...Option) (*Validator, error) {
 		return nil, ErrOnce
 	}
 	v := &Validator{remember: chosen.remember, once: chosen.once}
-	if err := v.documents.openWithin(policy, keys, chosen.questions); err != nil {
+	if err := v.documents.openDocuments(policy, keys); err != nil {
 		v.documents.close()
 		return nil, err
 	}
@@ -90,21 +83,14 @@ func Open(policy, keys []byte, how ...Option) (*Validator, error) {
 	return v, nil
 }
 
-// openWithin reads a policy and a key set under which one token raises so many questions at most. The errors are those of Open.
-func (h *held) openWithin(policy, keys []byte, allowed int) error {
+// openDocuments reads a policy and a key set. The errors are those of Open.
+func (h *held) openDocuments(policy, keys []byte) error {
 	status, fault := h.open(policy, keys)
 	if status == statusRefused {
 		return documentError(fault, policy)
 	}
 	if status != statusOK {
 		return ErrOutOfMemory
-	}
-	most, status := h.mostQuestions()
-	if status != statusOK {
-		return ErrClosed
-	}
-	if most > allowed {
-		return &QuestionsError{most, allowed}
 	}
 	return nil
 }
@@ -286,8 +272,6 @@ func (s *seat) refused(said verdict) (Refusal, error) {
 		return nil, nil
 	case statusRefused:
 		return s.refusal(said)
-	case statusAsks:
-		return &UndecidedError{said.signature, said.key}, nil
 	default:
 		return nil, ErrOutOfMemory
 	}

@@ -2,58 +2,11 @@ package fowharimu
 
 /*
 #include <stdlib.h>
-#ifdef FOWHARIMU_PROVED
 #include <fowharimu.h>
 
-// Public keys by the library's proved verifiers, which hold nothing.
-typedef struct crypto {
-	char nothing;
-} crypto;
-
-static void crypto_judge(crypto *it, fow_validator *validator, const uint8_t *token, size_t len, int64_t now, fow_report *report)
-{
-	(void)it;
-	fow_proved_judge(validator, token, len, now, report);
-}
-
-static void crypto_clear(crypto *it)
-{
-	(void)it;
-}
-
-static uint32_t crypto_open(fow_validator *validator, const uint8_t *policy, size_t policy_len, const uint8_t *keys, size_t keys_len,
-	uint32_t *fault)
-{
-	return fow_open(validator, policy, policy_len, keys, keys_len, fault);
-}
-#else
-#include <fowharimu_openssl.h>
-
-// What OpenSSL made of the keys.
-typedef fow_openssl crypto;
-
-static void crypto_judge(crypto *it, fow_validator *validator, const uint8_t *token, size_t len, int64_t now, fow_report *report)
-{
-	fow_openssl_judge(it, validator, token, len, now, report);
-}
-
-static void crypto_clear(crypto *it)
-{
-	fow_openssl_clear(it);
-}
-
-// No key is prepared, since OpenSSL verifies.
-static uint32_t crypto_open(fow_validator *validator, const uint8_t *policy, size_t policy_len, const uint8_t *keys, size_t keys_len,
-	uint32_t *fault)
-{
-	return fow_open_prepared(validator, policy, policy_len, keys, keys_len, 0, fault);
-}
-#endif
-
-// A validator, and what verifies its public keys.
+// A validator.
 typedef struct held {
 	fow_validator validator;
-	crypto crypto;
 } held;
 
 // The octets of a text, at an address that isn't NULL.
@@ -64,12 +17,7 @@ static const uint8_t *at(_GoString_ text)
 
 static uint32_t held_open(held *it, _GoString_ policy, _GoString_ keys, uint32_t *fault)
 {
-	return crypto_open(&it->validator, at(policy), _GoStringLen(policy), at(keys), _GoStringLen(keys), fault);
-}
-
-static uint32_t held_most_questions(held *it, uint32_t *most)
-{
-	return fow_most_questions(&it->validator, most);
+	return fow_open(&it->validator, at(policy), _GoStringLen(policy), at(keys), _GoStringLen(keys), fault);
 }
 
 static uint32_t held_open_beside(held *it, held *another)
@@ -90,7 +38,7 @@ static bool held_remembered(held *it)
 static fow_report held_judge(held *it, _GoString_ token, int64_t now)
 {
 	fow_report report = { 0 };
-	crypto_judge(&it->crypto, &it->validator, at(token), _GoStringLen(token), now, &report);
+	fow_judge(&it->validator, at(token), _GoStringLen(token), now, &report);
 	return report;
 }
 
@@ -154,7 +102,6 @@ static void access_free(fow_access *it)
 
 static void held_free(held *it)
 {
-	crypto_clear(&it->crypto);
 	fow_close(&it->validator);
 	free(it);
 }
@@ -170,7 +117,6 @@ import (
 const (
 	statusOK          = C.FOW_OK
 	statusRefused     = C.FOW_REFUSED
-	statusAsks        = C.FOW_ASKS
 	statusOutOfMemory = C.FOW_OUT_OF_MEMORY
 	statusTooShort    = C.FOW_TOO_SHORT
 	statusAbsent      = C.FOW_ABSENT
@@ -180,9 +126,6 @@ const (
 
 // scopeMissing is the number of the denial that speaks of a scope.
 const scopeMissing = C.FOW_DENIED_SCOPE_MISSING
-
-// defaultQuestions is how many questions one token may raise where no option says it.
-const defaultQuestions = C.FOW_MOST_QUESTIONS
 
 // claimByName is the number of a claim that has no number of its own.
 const claimByName = C.FOW_CLAIM_BY_NAME
@@ -207,13 +150,6 @@ func (h *held) open(policy, keys []byte) (status, fault int) {
 	var number C.uint32_t
 	status = int(C.held_open(h.at, string(policy), string(keys), &number))
 	return status, int(number)
-}
-
-// mostQuestions gives how many questions one token can raise, and the status.
-func (h *held) mostQuestions() (most, status int) {
-	var number C.uint32_t
-	status = int(C.held_most_questions(h.at, &number))
-	return int(number), status
 }
 
 // compare gives a *LibraryError where the library that was loaded has another interface than this package was compiled for, and else nil.

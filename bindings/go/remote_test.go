@@ -42,10 +42,10 @@ func openRemote(t *testing.T, policy []byte, address string, options ...fowharim
 }
 
 func TestNewKeysAreJudgedByThePolicyThatWasHandedOver(t *testing.T) {
-	policy, options := []byte(`{"algs":["RS256"],"issuers":["joe"]}`), []fowharimu.Option{fowharimu.MostQuestions(64)}
+	policy, options := []byte(`{"algs":["RS256"],"issuers":["joe"]}`), []fowharimu.Option{fowharimu.Remember(1, 4096)}
 	keys := openRemote(t, policy, keysAt(t), options...)
 	copy(policy, `{"algs":["RS256"],"issuers":["eve"]}`)
-	options[0] = fowharimu.MostQuestions(-1)
+	options[0] = fowharimu.Taking(nil)
 	if err := keys.Refresh(); err != nil {
 		t.Fatal(err)
 	}

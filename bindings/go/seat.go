@@ -9,7 +9,7 @@ const (
 	seatGone
 )
 
-// seat is what one call at a time judges with: a handle on the documents of its validator, and what OpenSSL made of their keys.
+// seat is what one call at a time judges with: a handle on the documents of its validator.
 type seat struct {
 	held  held
 	state atomic.Int32

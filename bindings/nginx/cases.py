@@ -47,7 +47,7 @@ def is_carried(now: str, token: bytes, answer: list[str]) -> bool:
 
 def read_cases() -> tuple[list[tuple[bytes, ...]], list[Asked], int]:
     """The documents of each location, the cases that are asked, and how many tokens there are in all."""
-    answers = dict(it.split("\t", 1) for it in (TABLE / "openssl.tsv").read_text().splitlines())
+    answers = dict(it.split("\t", 1) for it in (TABLE / "stored.tsv").read_text().splitlines())
     documents: list[tuple[bytes, ...]] = []
     cases: list[Asked] = []
     places: dict[tuple[bytes, ...], int] = {}

@@ -70,6 +70,7 @@ LOCATIONS = {
     "/asking": "jwt off; auth_request /asked;",
     "/asked": "internal; jwt_dpop on;",
     "/page-for-401": "jwt_dpop on; error_page 401 /login;",
+    "/any": "jwt_dpop on; satisfy any; allow all; jwt_issue access.keys https://gateway.example shop; proxy_pass http://behind;",
     "/login": "jwt off;",
 }
 BEHIND = 'server { listen unix:{room}/behind.sock; location / { default_type text/plain; return 200 "$http_authorization|$http_dpop"; } } upstream behind { server unix:{room}/behind.sock; }'
@@ -113,6 +114,8 @@ def test_proofs(check: Callable[..., None]) -> None:
         locations = " ".join(f"location {path} {{ {body} {'' if 'return' in body or 'proxy_pass' in body else 'try_files /page =404;'} }}" for path, body in LOCATIONS.items())
         proofs = f"jwt_dpop_policy proofs.policy; jwt_dpop_origin {ORIGIN}; jwt_dpop_once zone=proofs:1m;"
         including = "location = /including.html { jwt_dpop on; ssi on; }"
+        # (asks in a second zone, and then is redirected within nginx to where the proof is taken first)
+        including += " location /two-zones { jwt_dpop on; auth_request /in-apart; try_files /none /held/inner; } location = /in-apart { internal; jwt_dpop on; jwt_dpop_once zone=apart:64k; jwt_answer; }"
         nginx.configure(BEHIND + f"server {{ listen 127.0.0.1:{{port}}; jwt_policy access.policy; jwt_keys access.keys; {SHOWN} jwt on; {proofs} {locations} {including} }}")
 
         def said(path: str, proof: str | None, token: str = held.bound, scheme: str = "DPoP", *words: str) -> tuple[int, str, str]:
@@ -140,6 +143,8 @@ def test_proofs(check: Callable[..., None]) -> None:
             page = nginx.get("/including.html", "-H", f"Authorization: DPoP {held.bound}", "-H", f"DPoP: {proof}")
             check("subrequests of a request take its proof once", page.body.count("the page") == 2, page)
             check("and it isn't let in again", said("/including.html", proof) == SEEN)
+            proof = held.proof("/two-zones")
+            check("a proof that one request takes in two zones", [said("/two-zones", proof) for _ in range(3)] == [GOOD_ANSWER, SEEN, SEEN])
             proof = held.proof("/asking", method="POST")
             asked = [said("/asking", proof, held.bound, "DPoP", "-X", "POST")[0] for _ in range(3)]
             check("a proof where auth_request asks, by the client's method and path", asked[1:] == [401, 401] and asked[0] != 401, asked)
@@ -147,6 +152,11 @@ def test_proofs(check: Callable[..., None]) -> None:
             shown = [nginx.get(path, "-H", f"Authorization: DPoP {held.bound}", "-H", f"DPoP: {held.proof(path)}").body for path in ("/shown", "/stripped", "/issued")]
             check("a token with its proof goes on", shown[0].startswith(f"DPoP {held.bound}|ey"), shown)
             check("a token with its proof is taken away", shown[1] == "|" and shown[2].startswith("Bearer ey") and shown[2].endswith("|"), shown)
+            proof = held.proof("/any")
+            shown = [nginx.get("/any", "-H", f"Authorization: DPoP {held.bound}", "-H", f"DPoP: {proof}").body for _ in range(2)]
+            check("a proof that nobody took, by the address: nothing is handed on", shown == ["|"] * 2, shown)
+            got = nginx.get("/any", "-H", f"Authorization: Bearer {held.free()}").body
+            check("a token that isn't bound, by the address", got.startswith("Bearer ey"), got)
             proof = held.proof("/held")
             words = ["-H", f"Authorization: DPoP {held.bound}", "-H", f"DPoP: {proof}", f"http://127.0.0.1:{nginx.port}/held"]
             requests = [subprocess.Popen(["curl", "-s", "-o", "/dev/null", "-w", "%{http_code}", *words], stdout=subprocess.PIPE, text=True) for _ in range(24)]
@@ -221,7 +231,7 @@ def test_certificates(check: Callable[..., None]) -> None:
         mark = tokens.MAKE.base64url(hashlib.sha256(ders["client"]).digest())
         proofs = f"jwt_dpop_policy proofs.policy; jwt_dpop_origin {ORIGIN}; jwt_dpop_once zone=proofs:1m;"
         lines = "ssl_certificate server.pem; ssl_certificate_key server.key; ssl_verify_client optional_no_ca; jwt_policy access.policy; jwt_keys access.keys; jwt on;"
-        places = {"/": "jwt_certificate $ssl_client_raw_cert;", "/escaped": "jwt_certificate $ssl_client_escaped_cert;", "/bearers": "jwt_refuse_bound on;", "/proofs": f"{proofs} jwt_dpop on; jwt_certificate $ssl_client_raw_cert;"}
+        places = {"/": "jwt_certificate $ssl_client_raw_cert;", "/escaped": "jwt_certificate $ssl_client_escaped_cert;", "/header": "jwt_certificate $http_pem;", "/bearers": "jwt_refuse_bound on;", "/proofs": f"{proofs} jwt_dpop on; jwt_certificate $ssl_client_raw_cert;"}
         locations = " ".join(f"location = {path} {{ {body} jwt_answer 200; }}" for path, body in places.items())
         nginx.configure(f"server {{ listen 127.0.0.1:{{port}}; listen 127.0.0.1:{port} ssl; {SHOWN} {lines} {locations} }}")
         bound, key = {"x5t#S256": mark}, {"jkt": proofs_of_now.thumbprint("ES256")}
@@ -242,6 +252,7 @@ def test_certificates(check: Callable[..., None]) -> None:
                 ("a token that is bound to a key", held.bound, "client", "/", (401, "Bound")),
                 ("a token that is bound to both, without a proof", held.free(cnf={**bound, **key}), "client", "/", (401, "Bound")),
                 ("a token that is bound in another way", held.free(cnf={"kid": mark}), "client", "/", (401, "Bound")),
+                ("a token that is bound to no octets, and no certificate", held.free(cnf={"x5t#S256": tokens.MAKE.base64url(hashlib.sha256(b"").digest())}), None, "/", (401, "OtherCertificate")),
                 ("a certificate that is no PEM", held.free(cnf=bound), "client", "/escaped", (401, "OtherCertificate")),
                 ("a bound token where none may be", held.free(cnf=bound), "client", "/bearers", (401, "Bound")),
                 ("a token that isn't bound where none may be", held.free(), None, "/bearers", (200, "")),
@@ -249,6 +260,18 @@ def test_certificates(check: Callable[..., None]) -> None:
             ):
                 got = said(token, client, path)
                 check(f"certificates, {what}", got == wanted, got)
+            text = "".join((nginx.room / "client.pem").read_text().split("\n"))
+            for what, pem, wanted in (
+                ("on one line", text, (200, "")),
+                ("behind other text", f"subject=CN = client {text}{text[:40]}", (200, "")),
+                ("without its end", text[:-5], (401, "OtherCertificate")),
+                ("with another label", text.replace("CERTIFICATE", "TRUSTED CERTIFICATE"), (401, "OtherCertificate")),
+                ("with an octet that is none of base64", text.replace("M", "*", 1), (401, "OtherCertificate")),
+                ("of no octets", text[:27] + text[-25:], (401, "OtherCertificate")),
+            ):
+                token = held.free(cnf=bound)
+                got = said(token, None, "/header", "-H", f"Authorization: Bearer {token}", "-H", f"Pem: {pem}")
+                check(f"certificates, PEM {what}", got == wanted, got)
             both = held.free(cnf={**bound, **key})
             for client, wanted in (("client", (200, "")), ("stranger", (401, "OtherCertificate"))):
                 proof = held.proof("/proofs", token=both)

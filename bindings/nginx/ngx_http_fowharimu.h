@@ -8,7 +8,7 @@
 #include <ngx_core.h>
 #include <ngx_http.h>
 
-#include <fowharimu_openssl.h>
+#include <fowharimu.h>
 
 
 /* the longest documents that the library reads, in octets */
@@ -19,9 +19,6 @@
 /* how many tokens of how many octets are remembered, where nothing is said */
 #define NGX_HTTP_FOWHARIMU_TOKENS      1000
 #define NGX_HTTP_FOWHARIMU_OCTETS      4096
-
-/* how many questions one token may raise, where nothing is said */
-#define NGX_HTTP_FOWHARIMU_QUESTIONS   FOW_MOST_QUESTIONS
 
 /* how long a token of "jwt_issue" lives, in seconds, where nothing is said */
 #define NGX_HTTP_FOWHARIMU_LIFETIME    60
@@ -55,7 +52,6 @@ typedef struct {
 
 typedef struct {
     fow_validator                    handle;
-    fow_openssl                      crypto;
 } ngx_http_fowharimu_validator_t;
 
 
@@ -90,7 +86,6 @@ typedef struct {
     ngx_event_t                      event;
     ngx_http_fowharimu_file_t        file;
     ngx_str_t                        policy;
-    uint32_t                         most;      /* questions of one token */
     ngx_array_t                      openings;  /* by pointers */
     unsigned                         missing:1; /* and the log has it */
 } ngx_http_fowharimu_watch_t;
@@ -102,7 +97,6 @@ typedef struct {
     ngx_str_t                        keys;
     ngx_int_t                        tokens;    /* that are remembered */
     size_t                           octets;
-    uint32_t                         most;
     ngx_http_fowharimu_validator_t  *validator;
 } ngx_http_fowharimu_opening_t;
 
@@ -135,11 +129,14 @@ typedef struct {
 } ngx_http_fowharimu_entry_t;
 
 
-/* a token or a proof that was taken, by a main request */
-typedef struct {
+/* the tokens or the proofs that a main request has taken, each in its zone */
+typedef struct ngx_http_fowharimu_held_s  ngx_http_fowharimu_held_t;
+
+struct ngx_http_fowharimu_held_s {
     ngx_shm_zone_t                  *zone;
-    ngx_http_fowharimu_entry_t       entry;
-} ngx_http_fowharimu_held_t;
+    u_char                           mark[NGX_HTTP_FOWHARIMU_MARK];
+    ngx_http_fowharimu_held_t       *next;
+};
 
 
 /* a policy for proofs of possession, with the names of its algorithms */
@@ -225,7 +222,6 @@ typedef struct {
     ngx_flag_t                       refuse_bound;
     ngx_int_t                        tokens;    /* that are remembered */
     size_t                           octets;    /* of the longest of them */
-    ngx_uint_t                       most;      /* questions of one token */
 } ngx_http_fowharimu_loc_conf_t;
 
 
@@ -264,8 +260,8 @@ typedef struct {
     ngx_list_t                       headers;   /* as they were sent */
     ngx_str_t                        args;
     ngx_str_t                        stripped;  /* the same without the token */
-    ngx_http_fowharimu_held_t        token;     /* that it has taken */
-    ngx_http_fowharimu_held_t        proof;     /* (both of a main request) */
+    ngx_http_fowharimu_held_t       *tokens;    /* that it has taken */
+    ngx_http_fowharimu_held_t       *proofs;    /* (both of a main request) */
     unsigned                         under_way:1;
     unsigned                         changed:1; /* others go on than .headers */
     unsigned                         cut:1;     /* .stripped go on */

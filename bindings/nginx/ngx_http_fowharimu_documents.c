@@ -15,8 +15,6 @@ static ngx_http_fowharimu_opening_t *ngx_http_fowharimu_new_opening(
     ngx_http_fowharimu_grounds_t *grounds);
 static ngx_int_t ngx_http_fowharimu_open_validator(ngx_conf_t *cf,
     ngx_http_fowharimu_opening_t *opening);
-static ngx_int_t ngx_http_fowharimu_is_bounded(ngx_conf_t *cf,
-    ngx_http_fowharimu_opening_t *opening);
 static ngx_int_t ngx_http_fowharimu_is_readable(ngx_conf_t *cf,
     ngx_str_t *name);
 static void ngx_http_fowharimu_close(void *data);
@@ -44,24 +42,18 @@ ngx_http_fowharimu_open(ngx_conf_t *cf, ngx_http_fowharimu_loc_conf_t *lcf)
         lcf->octets = NGX_HTTP_FOWHARIMU_OCTETS;
     }
 
-    if (lcf->most == NGX_CONF_UNSET_UINT) {
-        lcf->most = NGX_HTTP_FOWHARIMU_QUESTIONS;
-    }
-
     return lcf->issuers
            ? ngx_http_fowharimu_open_issuers(cf, lcf)
            : ngx_http_fowharimu_open_grounds(cf, lcf, &lcf->grounds);
 }
 
 
-/* by OpenSSL, which verifies here, no key needs to be prepared */
-
 uint32_t
 ngx_http_fowharimu_open_documents(fow_validator *handle, ngx_str_t *policy,
     ngx_str_t *keys, uint32_t *fault)
 {
-    return fow_open_prepared(handle, policy->data, policy->len, keys->data,
-                             keys->len, 0, fault);
+    return fow_open(handle, policy->data, policy->len, keys->data, keys->len,
+                    fault);
 }
 
 
@@ -166,8 +158,7 @@ ngx_http_fowharimu_open_grounds(ngx_conf_t *cf,
     opening = ngx_http_fowharimu_new_opening(cf, lcf, grounds);
 
     if (opening == NULL
-        || ngx_http_fowharimu_open_validator(cf, opening) != NGX_OK
-        || ngx_http_fowharimu_is_bounded(cf, opening) != NGX_OK)
+        || ngx_http_fowharimu_open_validator(cf, opening) != NGX_OK)
     {
         return NGX_ERROR;
     }
@@ -203,7 +194,6 @@ ngx_http_fowharimu_new_opening(ngx_conf_t *cf,
     opening->keys = grounds->keys;
     opening->tokens = lcf->tokens;
     opening->octets = lcf->octets;
-    opening->most = lcf->most;
     opening->validator = validator;
 
     return opening;
@@ -270,28 +260,6 @@ ngx_http_fowharimu_open_validator(ngx_conf_t *cf,
     *other = opening;
 
     return NGX_OK;
-}
-
-
-static ngx_int_t
-ngx_http_fowharimu_is_bounded(ngx_conf_t *cf,
-    ngx_http_fowharimu_opening_t *opening)
-{
-    uint32_t  most;
-
-    if (fow_most_questions(&opening->validator->handle, &most) == FOW_OK
-        && most <= opening->most)
-    {
-        return NGX_OK;
-    }
-
-    ngx_conf_log_error(NGX_LOG_EMERG, cf, 0,
-                       "one token can raise %uD questions about public keys, "
-                       "and %uD are let: \"max_calls\" in the policy bounds "
-                       "them, or \"jwt_most_questions\" lets more", most,
-                       opening->most);
-
-    return NGX_ERROR;
 }
 
 
@@ -404,7 +372,6 @@ ngx_http_fowharimu_close(void *data)
 {
     ngx_http_fowharimu_validator_t  *validator = data;
 
-    fow_openssl_clear(&validator->crypto);
     fow_close(&validator->handle);
 }
 

@@ -20,6 +20,9 @@ static ngx_int_t ngx_http_fowharimu_put_first(ngx_array_t *handlers,
 static void ngx_http_fowharimu_warn_of_methods(ngx_conf_t *cf);
 static void *ngx_http_fowharimu_create_main_conf(ngx_conf_t *cf);
 static void *ngx_http_fowharimu_create_loc_conf(ngx_conf_t *cf);
+static void ngx_http_fowharimu_say_nothing(ngx_http_fowharimu_loc_conf_t *lcf);
+static ngx_uint_t ngx_http_fowharimu_says_something(
+    ngx_http_fowharimu_loc_conf_t *conf);
 static char *ngx_http_fowharimu_merge_loc_conf(ngx_conf_t *cf, void *parent,
     void *child);
 static char *ngx_http_fowharimu_merge_grounds(ngx_conf_t *cf,
@@ -27,7 +30,7 @@ static char *ngx_http_fowharimu_merge_grounds(ngx_conf_t *cf,
 static ngx_http_fowharimu_issuers_t *ngx_http_fowharimu_copy_issuers(
     ngx_conf_t *cf, ngx_http_fowharimu_issuers_t *issuers);
 static ngx_int_t ngx_http_fowharimu_note_methods(ngx_conf_t *cf,
-    ngx_http_fowharimu_loc_conf_t *prev, ngx_http_fowharimu_loc_conf_t *conf);
+    ngx_http_core_loc_conf_t *clcf, ngx_http_fowharimu_loc_conf_t *conf);
 static void *ngx_http_fowharimu_conf_of(ngx_conf_t *cf,
     ngx_http_conf_ctx_t *ctx, const char *name);
 static ngx_uint_t ngx_http_fowharimu_is_open(ngx_conf_t *cf);
@@ -40,8 +43,6 @@ static char *ngx_http_fowharimu_policy(ngx_conf_t *cf, ngx_command_t *cmd,
 static char *ngx_http_fowharimu_keys(ngx_conf_t *cf, ngx_command_t *cmd,
     void *conf);
 static char *ngx_http_fowharimu_issuer(ngx_conf_t *cf, ngx_command_t *cmd,
-    void *conf);
-static char *ngx_http_fowharimu_most(ngx_conf_t *cf, ngx_command_t *cmd,
     void *conf);
 static char *ngx_http_fowharimu_remember(ngx_conf_t *cf, ngx_command_t *cmd,
     void *conf);
@@ -171,13 +172,6 @@ static ngx_command_t  ngx_http_fowharimu_commands[] = {
     { ngx_string("jwt_remember"),
       NGX_HTTP_FOWHARIMU_CONF|NGX_CONF_TAKE12,
       ngx_http_fowharimu_remember,
-      NGX_HTTP_LOC_CONF_OFFSET,
-      0,
-      NULL },
-
-    { ngx_string("jwt_most_questions"),
-      NGX_HTTP_FOWHARIMU_CONF|NGX_CONF_TAKE1,
-      ngx_http_fowharimu_most,
       NGX_HTTP_LOC_CONF_OFFSET,
       0,
       NULL },
@@ -359,9 +353,9 @@ ngx_http_fowharimu_warn_of_methods(ngx_conf_t *cf)
                 == 0)
             {
                 ngx_log_error(NGX_LOG_WARN, cf->log, 0,
-                              "location \"%V\" says in \"limit_except\" "
-                              "whose token is accepted, and \"auth_request\" "
-                              "asks it by GET, whatever the client's method is",
+                              "location \"%V\" has directives of \"jwt\" in "
+                              "\"limit_except\", and \"auth_request\" asks it "
+                              "by GET, whatever the client's method is",
                               &limited[i]);
                 break;
             }
@@ -405,13 +399,26 @@ ngx_http_fowharimu_create_loc_conf(ngx_conf_t *cf)
 {
     ngx_http_fowharimu_loc_conf_t  *lcf;
 
-    lcf = ngx_pcalloc(cf->pool, sizeof(ngx_http_fowharimu_loc_conf_t));
+    lcf = ngx_palloc(cf->pool, sizeof(ngx_http_fowharimu_loc_conf_t));
     if (lcf == NULL) {
         return NULL;
     }
 
+    ngx_http_fowharimu_say_nothing(lcf);
+
+    return lcf;
+}
+
+
+/* (with zeros between the members: one that says nothing is told by its octets) */
+
+static void
+ngx_http_fowharimu_say_nothing(ngx_http_fowharimu_loc_conf_t *lcf)
+{
+    ngx_memzero(lcf, sizeof(ngx_http_fowharimu_loc_conf_t));
+
     /*
-     * set by ngx_pcalloc():
+     * set by ngx_memzero():
      *
      *     lcf->open = 0;
      *     lcf->answer = 0;
@@ -440,9 +447,20 @@ ngx_http_fowharimu_create_loc_conf(ngx_conf_t *cf)
     lcf->refuse_bound = NGX_CONF_UNSET;
     lcf->tokens = NGX_CONF_UNSET;
     lcf->octets = NGX_CONF_UNSET_SIZE;
-    lcf->most = NGX_CONF_UNSET_UINT;
+}
 
-    return lcf;
+
+/* whether a directive of this module stands at this very level */
+
+static ngx_uint_t
+ngx_http_fowharimu_says_something(ngx_http_fowharimu_loc_conf_t *conf)
+{
+    ngx_http_fowharimu_loc_conf_t  nothing;
+
+    ngx_http_fowharimu_say_nothing(&nothing);
+
+    return ngx_memcmp(conf, &nothing, sizeof(ngx_http_fowharimu_loc_conf_t))
+           != 0;
 }
 
 
@@ -455,9 +473,14 @@ ngx_http_fowharimu_merge_loc_conf(ngx_conf_t *cf, void *parent, void *child)
     ngx_http_core_loc_conf_t        *clcf;
     ngx_http_fowharimu_main_conf_t  *mcf;
 
+    clcf = ngx_http_conf_get_module_loc_conf(cf, ngx_http_core_module);
+
+    if (ngx_http_fowharimu_note_methods(cf, clcf, conf) != NGX_OK) {
+        return NGX_CONF_ERROR;
+    }
+
     /* a "return" beside "limit_except" answers each method */
 
-    clcf = ngx_http_conf_get_module_loc_conf(cf, ngx_http_core_module);
     conf->open = ngx_http_fowharimu_is_open(cf)
                  || (clcf->lmt_excpt && prev->open);
 
@@ -495,8 +518,7 @@ ngx_http_fowharimu_merge_loc_conf(ngx_conf_t *cf, void *parent, void *child)
     ngx_conf_merge_ptr_value(conf->once, prev->once, NULL);
 
     if (ngx_http_fowharimu_merge_changes(cf, prev, conf) != NGX_CONF_OK
-        || ngx_http_fowharimu_merge_possession(cf, prev, conf) != NGX_CONF_OK
-        || ngx_http_fowharimu_note_methods(cf, prev, conf) != NGX_OK)
+        || ngx_http_fowharimu_merge_possession(cf, prev, conf) != NGX_CONF_OK)
     {
         return NGX_CONF_ERROR;
     }
@@ -555,8 +577,7 @@ ngx_http_fowharimu_merge_grounds(ngx_conf_t *cf,
         return NGX_CONF_ERROR;
     }
 
-    is_alike = conf->tokens == NGX_CONF_UNSET
-               && conf->most == NGX_CONF_UNSET_UINT;
+    is_alike = conf->tokens == NGX_CONF_UNSET;
 
     if (conf->issuers == NULL && !own && prev->issuers) {
         conf->issuers = is_alike
@@ -587,8 +608,6 @@ ngx_http_fowharimu_merge_grounds(ngx_conf_t *cf,
                          NGX_HTTP_FOWHARIMU_TOKENS);
     ngx_conf_merge_size_value(conf->octets, prev->octets,
                               NGX_HTTP_FOWHARIMU_OCTETS);
-    ngx_conf_merge_uint_value(conf->most, prev->most,
-                              NGX_HTTP_FOWHARIMU_QUESTIONS);
 
     return ngx_http_fowharimu_open(cf, conf) == NGX_OK ? NGX_CONF_OK
                                                        : NGX_CONF_ERROR;
@@ -676,29 +695,21 @@ ngx_http_fowharimu_conf_of(ngx_conf_t *cf, ngx_http_conf_ctx_t *ctx,
 
 /*
  * Notes whom "auth_request" asks, whose configuration begins with that place,
- * and the locations whose "limit_except" has a token judged in another way.
+ * and the locations whose "limit_except" has a directive of this module, before
+ * that level inherits any.
  */
 
 static ngx_int_t
-ngx_http_fowharimu_note_methods(ngx_conf_t *cf,
-    ngx_http_fowharimu_loc_conf_t *prev, ngx_http_fowharimu_loc_conf_t *conf)
+ngx_http_fowharimu_note_methods(ngx_conf_t *cf, ngx_http_core_loc_conf_t *clcf,
+    ngx_http_fowharimu_loc_conf_t *conf)
 {
     u_char                          *args;
     ngx_str_t                       *uri, *noted;
-    ngx_http_core_loc_conf_t        *clcf;
     ngx_http_fowharimu_main_conf_t  *mcf;
 
     mcf = ngx_http_conf_get_module_main_conf(cf, ngx_http_fowharimu_module);
-    clcf = ngx_http_conf_get_module_loc_conf(cf, ngx_http_core_module);
 
-    if (clcf->lmt_excpt
-        && (conf->enable != prev->enable || conf->rule != prev->rule
-            || conf->demands != prev->demands
-            || conf->expected != prev->expected
-            || conf->once != prev->once
-            || conf->grounds.validator != prev->grounds.validator
-            || conf->issuers != prev->issuers))
-    {
+    if (clcf->lmt_excpt && ngx_http_fowharimu_says_something(conf)) {
         noted = ngx_array_push(&mcf->limited);
         if (noted == NULL) {
             return NGX_ERROR;
@@ -996,35 +1007,6 @@ ngx_http_fowharimu_remember(ngx_conf_t *cf, ngx_command_t *cmd, void *conf)
 
     lcf->tokens = tokens;
     lcf->octets = octets;
-
-    return NGX_CONF_OK;
-}
-
-
-/* "jwt_most_questions number" */
-
-static char *
-ngx_http_fowharimu_most(ngx_conf_t *cf, ngx_command_t *cmd, void *conf)
-{
-    ngx_http_fowharimu_loc_conf_t *lcf = conf;
-
-    ngx_int_t   most;
-    ngx_str_t  *value;
-
-    if (lcf->most != NGX_CONF_UNSET_UINT) {
-        return "is duplicate";
-    }
-
-    value = cf->args->elts;
-    most = ngx_atoi(value[1].data, value[1].len);
-
-    /* (no policy and key set let one token raise more) */
-
-    if (most == NGX_ERROR || most > 32768) {
-        return "takes a number of at most 32768";
-    }
-
-    lcf->most = most;
 
     return NGX_CONF_OK;
 }

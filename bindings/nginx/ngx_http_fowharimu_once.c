@@ -23,7 +23,16 @@ typedef struct {
     ngx_rbtree_t                     turns;
     ngx_rbtree_node_t                turns_sentinel;
     uint64_t                         latest;    /* moment that was told */
+    uint64_t                         behind;    /* as of then, and one more, */
+    uint64_t                         full;      /* these errors were told */
 } ngx_http_fowharimu_memory_t;
+
+
+/* by how many seconds workers may differ, since each keeps a time of its own */
+#define NGX_HTTP_FOWHARIMU_APART  5
+
+/* the seconds after which an error of a zone is told again */
+#define NGX_HTTP_FOWHARIMU_AGAIN  3600
 
 
 static ngx_int_t ngx_http_fowharimu_init_zone(ngx_shm_zone_t *zone,
@@ -36,11 +45,15 @@ static ngx_int_t ngx_http_fowharimu_compare_marks(
     ngx_rbtree_node_t *one, ngx_rbtree_node_t *other);
 static ngx_http_fowharimu_ctx_t *ngx_http_fowharimu_main_ctx(
     ngx_http_request_t *r);
-static const char *ngx_http_fowharimu_take_once(
-    ngx_http_fowharimu_held_t *held, ngx_shm_zone_t *zone,
+static const char *ngx_http_fowharimu_take_once(ngx_http_request_t *r,
+    ngx_http_fowharimu_held_t **held, ngx_shm_zone_t *zone,
     ngx_http_fowharimu_entry_t *entry, time_t now);
-static const char *ngx_http_fowharimu_take_entry(ngx_shm_zone_t *zone,
-    ngx_http_fowharimu_entry_t *entry, time_t now);
+static const char *ngx_http_fowharimu_take_entry(ngx_log_t *log,
+    ngx_shm_zone_t *zone, ngx_http_fowharimu_entry_t *entry, time_t now);
+static uint64_t ngx_http_fowharimu_behind(ngx_http_fowharimu_memory_t *memory,
+    time_t now);
+static ngx_uint_t ngx_http_fowharimu_tells(ngx_http_fowharimu_memory_t *memory,
+    uint64_t *told);
 static const char *ngx_http_fowharimu_take_locked(ngx_slab_pool_t *pool,
     ngx_http_fowharimu_entry_t *entry, time_t now);
 static ngx_http_fowharimu_taken_t *ngx_http_fowharimu_find_taken(
@@ -194,7 +207,8 @@ ngx_http_fowharimu_take(ngx_http_request_t *r,
 
     main = ngx_http_fowharimu_main_ctx(r);
 
-    return main ? ngx_http_fowharimu_take_once(&main->token, judged->conf->once,
+    return main ? ngx_http_fowharimu_take_once(r, &main->tokens,
+                                               judged->conf->once,
                                                &judged->entry, judged->moment)
                 : "OutOfMemory";
 }
@@ -210,7 +224,7 @@ ngx_http_fowharimu_take_proof(ngx_http_request_t *r,
 
     main = ngx_http_fowharimu_main_ctx(r);
 
-    return main ? ngx_http_fowharimu_take_once(&main->proof,
+    return main ? ngx_http_fowharimu_take_once(r, &main->proofs,
                                                judged->conf->proof_once,
                                                &judged->proof_entry,
                                                judged->moment)
@@ -229,48 +243,122 @@ ngx_http_fowharimu_main_ctx(ngx_http_request_t *r)
 }
 
 
-/* unless it is what this request has taken already */
+/* unless this request has taken it already, in that zone */
 
 static const char *
-ngx_http_fowharimu_take_once(ngx_http_fowharimu_held_t *held,
-    ngx_shm_zone_t *zone, ngx_http_fowharimu_entry_t *entry, time_t now)
+ngx_http_fowharimu_take_once(ngx_http_request_t *r,
+    ngx_http_fowharimu_held_t **held, ngx_shm_zone_t *zone,
+    ngx_http_fowharimu_entry_t *entry, time_t now)
 {
-    const char  *fault;
+    const char                 *fault;
+    ngx_http_fowharimu_held_t  *one;
 
-    if (held->zone == zone
-        && ngx_memcmp(held->entry.mark, entry->mark, NGX_HTTP_FOWHARIMU_MARK)
-           == 0)
-    {
-        return NULL;
+    for (one = *held; one; one = one->next) {
+
+        if (one->zone == zone
+            && ngx_memcmp(one->mark, entry->mark, NGX_HTTP_FOWHARIMU_MARK)
+               == 0)
+        {
+            return NULL;
+        }
     }
 
-    fault = ngx_http_fowharimu_take_entry(zone, entry, now);
+    one = ngx_palloc(r->main->pool, sizeof(ngx_http_fowharimu_held_t));
+    if (one == NULL) {
+        return "OutOfMemory";
+    }
+
+    fault = ngx_http_fowharimu_take_entry(r->connection->log, zone, entry, now);
 
     if (fault == NULL) {
-        held->zone = zone;
-        held->entry = *entry;
+        one->zone = zone;
+        ngx_memcpy(one->mark, entry->mark, NGX_HTTP_FOWHARIMU_MARK);
+        one->next = *held;
+        *held = one;
     }
 
     return fault;
 }
 
 
+/*
+ * What a zone can't do for a while, whatever the request, is told as an error:
+ * not for each request, since it is strangers who send them.
+ */
+
 static const char *
-ngx_http_fowharimu_take_entry(ngx_shm_zone_t *zone,
+ngx_http_fowharimu_take_entry(ngx_log_t *log, ngx_shm_zone_t *zone,
     ngx_http_fowharimu_entry_t *entry, time_t now)
 {
-    const char       *fault;
-    ngx_slab_pool_t  *pool;
+    uint64_t                      behind;
+    const char                   *fault;
+    ngx_uint_t                    full;
+    ngx_slab_pool_t              *pool;
+    ngx_http_fowharimu_memory_t  *memory;
 
     pool = (ngx_slab_pool_t *) zone->shm.addr;
+    memory = pool->data;
 
     ngx_shmtx_lock(&pool->mutex);
 
     fault = ngx_http_fowharimu_take_locked(pool, entry, now);
 
+    behind = ngx_http_fowharimu_behind(memory, now);
+
+    if (behind && !ngx_http_fowharimu_tells(memory, &memory->behind)) {
+        behind = 0;
+    }
+
+    full = fault && ngx_strcmp(fault, "Full") == 0
+           && ngx_http_fowharimu_tells(memory, &memory->full);
+
     ngx_shmtx_unlock(&pool->mutex);
 
+    if (behind) {
+        ngx_log_error(NGX_LOG_ERR, log, 0,
+                      "jwt: the clock is %uL seconds behind a moment that the "
+                      "zone \"%V\" has seen: until then it refuses as Late "
+                      "what ends before", behind, &zone->shm.name);
+    }
+
+    if (full) {
+        ngx_log_error(NGX_LOG_ERR, log, 0,
+                      "jwt: the zone \"%V\" is full: it refuses what counts "
+                      "once until something in it has ended",
+                      &zone->shm.name);
+    }
+
     return fault;
+}
+
+
+/* by how many seconds, where it is more than workers differ by */
+
+static uint64_t
+ngx_http_fowharimu_behind(ngx_http_fowharimu_memory_t *memory, time_t now)
+{
+    uint64_t  moment;
+
+    moment = now > 0 ? (uint64_t) now : 0;
+
+    return memory->latest > moment
+           && memory->latest - moment > NGX_HTTP_FOWHARIMU_APART
+           ? memory->latest - moment : 0;
+}
+
+
+/* whether an error is told now; 0 stands where it never was */
+
+static ngx_uint_t
+ngx_http_fowharimu_tells(ngx_http_fowharimu_memory_t *memory, uint64_t *told)
+{
+    if (*told && memory->latest + 1 - *told < NGX_HTTP_FOWHARIMU_AGAIN) {
+        return 0;
+    }
+
+    *told = memory->latest + 1;
+
+    return 1;
 }
 
 

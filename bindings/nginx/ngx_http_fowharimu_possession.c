@@ -8,10 +8,10 @@
 
 #include "ngx_http_fowharimu.h"
 
-#include <openssl/bio.h>
-#include <openssl/err.h>
-#include <openssl/pem.h>
 
+/* the lines around a certificate (RFC 7468, section 5) */
+#define NGX_HTTP_FOWHARIMU_BEGIN  "-----BEGIN CERTIFICATE-----"
+#define NGX_HTTP_FOWHARIMU_END    "-----END CERTIFICATE-----"
 
 /* the longest file with the secret of nonces, in octets */
 #define NGX_HTTP_FOWHARIMU_MAX_SECRET  4096
@@ -39,6 +39,8 @@ static uint32_t ngx_http_fowharimu_is_for_bearers(
 static uint32_t ngx_http_fowharimu_has_certificate(ngx_http_request_t *r,
     ngx_http_fowharimu_loc_conf_t *lcf, ngx_http_fowharimu_judged_t *judged,
     const char **fault);
+static ngx_int_t ngx_http_fowharimu_der(ngx_pool_t *pool, ngx_str_t *pem,
+    ngx_str_t *der);
 
 
 /* "jwt_dpop on", "only", or "off": the schemes that are taken */
@@ -616,53 +618,25 @@ ngx_http_fowharimu_is_for_bearers(ngx_http_fowharimu_loc_conf_t *lcf,
 }
 
 
-/* the certificate comes as PEM, of which the first one counts */
-
 static uint32_t
 ngx_http_fowharimu_has_certificate(ngx_http_request_t *r,
     ngx_http_fowharimu_loc_conf_t *lcf, ngx_http_fowharimu_judged_t *judged,
     const char **fault)
 {
-    BIO        *bio;
-    char       *name, *header;
-    long        len;
-    u_char     *der;
-    uint32_t    status;
-    ngx_str_t   pem;
+    uint32_t   status;
+    ngx_str_t  pem, der;
 
-    if (ngx_http_complex_value(r, lcf->certificate, &pem) != NGX_OK) {
-        *fault = "OutOfMemory";
+    *fault = "OutOfMemory";
+
+    if (ngx_http_complex_value(r, lcf->certificate, &pem) != NGX_OK
+        || ngx_http_fowharimu_der(r->pool, &pem, &der) != NGX_OK)
+    {
         return FOW_UNANSWERED;
     }
 
-    if (pem.len > NGX_MAX_INT32_VALUE) {
-        *fault = "OtherCertificate";
-        return FOW_NOT_ACCEPTED;
-    }
-
-    bio = BIO_new_mem_buf(pem.len ? pem.data : (u_char *) "", (int) pem.len);
-    if (bio == NULL) {
-        *fault = "OutOfMemory";
-        return FOW_UNANSWERED;
-    }
-
-    *fault = "OtherCertificate";
-    status = FOW_NOT_EXPECTED;
-
-    if (PEM_read_bio(bio, &name, &header, &der, &len) == 1) {
-
-        if (ngx_strcmp(name, PEM_STRING_X509) == 0 && len >= 0) {
-            status = fow_certificate_holds(&judged->validator->handle, der,
-                                           (size_t) len);
-        }
-
-        OPENSSL_free(name);
-        OPENSSL_free(header);
-        OPENSSL_free(der);
-    }
-
-    ERR_clear_error();
-    BIO_free(bio);
+    status = der.len ? fow_certificate_holds(&judged->validator->handle,
+                                             der.data, der.len)
+                     : FOW_NOT_EXPECTED;
 
     switch (status) {
 
@@ -670,12 +644,61 @@ ngx_http_fowharimu_has_certificate(ngx_http_request_t *r,
         return FOW_ADMITTED;
 
     case FOW_NOT_EXPECTED:
+        *fault = "OtherCertificate";
         return FOW_NOT_ACCEPTED;
 
     default:
-        *fault = "OutOfMemory";
         return FOW_UNANSWERED;
     }
+}
+
+
+/*
+ * the DER of the first certificate of a text in PEM; of no octets where there
+ * is none
+ */
+
+static ngx_int_t
+ngx_http_fowharimu_der(ngx_pool_t *pool, ngx_str_t *pem, ngx_str_t *der)
+{
+    u_char     *p, *last;
+    ngx_str_t   text;
+
+    ngx_str_set(der, "");
+
+    p = ngx_strnstr(pem->data, NGX_HTTP_FOWHARIMU_BEGIN, pem->len);
+    if (p == NULL) {
+        return NGX_OK;
+    }
+
+    p += sizeof(NGX_HTTP_FOWHARIMU_BEGIN) - 1;
+
+    last = ngx_strnstr(p, NGX_HTTP_FOWHARIMU_END, pem->data + pem->len - p);
+    if (last == NULL) {
+        return NGX_OK;
+    }
+
+    text.len = 0;
+
+    text.data = ngx_pnalloc(pool, last - p);
+    der->data = ngx_pnalloc(pool, ngx_base64_decoded_length(last - p));
+
+    if (text.data == NULL || der->data == NULL) {
+        return NGX_ERROR;
+    }
+
+    for ( /* void */ ; p < last; p++) {
+
+        if (*p != CR && *p != LF) {
+            text.data[text.len++] = *p;
+        }
+    }
+
+    if (ngx_decode_base64(der, &text) != NGX_OK) {
+        der->len = 0;
+    }
+
+    return NGX_OK;
 }
 
 

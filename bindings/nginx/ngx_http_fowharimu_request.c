@@ -229,6 +229,12 @@ ngx_http_fowharimu_accepted_here(ngx_http_request_t *r,
 
     judged = lcf->enable ? ngx_http_fowharimu_judged(r) : NULL;
 
+    if (judged && !judged->passed
+        && (lcf->once || (judged->scheme == FOW_DPOP && lcf->proof_once)))
+    {
+        return NULL;
+    }
+
     return judged && judged->status == NGX_OK
            && ngx_http_fowharimu_is_same_conf(judged->conf, lcf)
            ? judged : NULL;
@@ -375,9 +381,8 @@ ngx_http_fowharimu_judge_token(ngx_http_request_t *r,
     validator = judged->validator;
     ngx_memzero(&report, sizeof(fow_report));
 
-    (void) fow_openssl_judge(&validator->crypto, &validator->handle,
-                             judged->token.data, judged->token.len,
-                             (int64_t) judged->moment, &report);
+    (void) fow_judge(&validator->handle, judged->token.data,
+                     judged->token.len, (int64_t) judged->moment, &report);
 
     /* the report of a token that is remembered has what was paid before */
 
@@ -393,9 +398,6 @@ ngx_http_fowharimu_judge_token(ngx_http_request_t *r,
     case FOW_REFUSED:
         return ngx_http_fowharimu_refuse_token(r, judged,
                                                fow_fault_name(report.fault));
-
-    case FOW_ASKS:
-        return ngx_http_fowharimu_fail(r, judged, "Unanswered");
 
     case FOW_OUT_OF_MEMORY:
         return ngx_http_fowharimu_fail(r, judged, "OutOfMemory");

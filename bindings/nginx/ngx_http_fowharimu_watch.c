@@ -62,7 +62,6 @@ ngx_http_fowharimu_watch(ngx_conf_t *cf, ngx_http_fowharimu_file_t *file,
 
     *place = opening;
 
-    watch->most = ngx_min(watch->most, opening->most);
     watch->file.interval = ngx_min(watch->file.interval, file->interval);
 
     return NGX_OK;
@@ -122,7 +121,6 @@ ngx_http_fowharimu_new_watch(ngx_conf_t *cf, ngx_http_fowharimu_file_t *file,
     *place = watch;
 
     watch->file = *file;
-    watch->most = (uint32_t) -1;
     watch->policy.len = policy->len;
     watch->policy.data = ngx_pstrdup(cf->pool, policy);
 
@@ -362,7 +360,6 @@ ngx_http_fowharimu_exchange(ngx_http_fowharimu_watch_t *watch,
             continue;
         }
 
-        fow_openssl_clear(&opening[i]->validator->crypto);
         fow_close(&opening[i]->validator->handle);
         opening[i]->validator->handle = newer[i];
     }
@@ -420,8 +417,6 @@ static const char *
 ngx_http_fowharimu_refused_keys(ngx_http_fowharimu_watch_t *watch,
     fow_validator *newer, uint32_t status, uint32_t fault)
 {
-    uint32_t  most;
-
     if (status == FOW_REFUSED) {
         return fow_fault_name(fault);
     }
@@ -432,11 +427,6 @@ ngx_http_fowharimu_refused_keys(ngx_http_fowharimu_watch_t *watch,
 
     if (!fow_documents_are_public(&newer[0])) {
         return "a key of kty oct";
-    }
-
-    if (fow_most_questions(&newer[0], &most) != FOW_OK || most > watch->most) {
-        return "one token could raise more questions than \"max_calls\" or "
-               "\"jwt_most_questions\" let it";
     }
 
     return NULL;

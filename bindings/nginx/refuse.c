@@ -1,4 +1,4 @@
-/* Preloaded into nginx by the tests, and into other programs over the library. Of the blocks of memory that the module, the library or libcrypto ask
+/* Preloaded into nginx by the tests, and into other programs over the library. Of the blocks of memory that the module or the library ask
  * for, it refuses the one whose number, from 1, stands in the file that REFUSED names, as eight octets; then that number is 0, and nothing is refused.
  * While -N stands there, each block of N octets and more is refused, whoever asks for it. */
 #define _GNU_SOURCE
@@ -35,7 +35,7 @@ static int is_refused(const void *caller, size_t size)
         return 0;
     /* (the file's own name, since its folder may have any) */
     const char *slash = strrchr(of.dli_fname, '/'), *name = slash == NULL ? of.dli_fname : slash + 1;
-    if (strstr(name, "fowharimu") == NULL && strstr(name, "libcrypto") == NULL)
+    if (strstr(name, "fowharimu") == NULL)
         return 0;
     return --*left == 0;
 }

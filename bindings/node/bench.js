@@ -3,7 +3,7 @@
 const fs = require('node:fs');
 const { Validator } = require('.');
 const { RemoteKeys } = require('./remote.js');
-const { tokenIn } = require('./requests.js');
+const { SCHEME, tokenIn } = require('./requests.js');
 
 const ROUNDS = 400;
 const NOW = 1300819379;
@@ -41,7 +41,7 @@ async function main(hmac, rsa, url) {
   remote.close();
   const value = `Bearer ${token}`;
   await measure('Authorization', 200, (calls) => {
-    for (let n = 0; n < calls; n++) tokenIn(value);
+    for (let n = 0; n < calls; n++) tokenIn(SCHEME.bearer, value);
   });
 }
 

@@ -1,5 +1,5 @@
 'use strict';
-// cases.js [-remember] FILE: answers each case of a table that tests/cases/make wrote, by the proved verifiers. tests/cases/README.md says what
+// cases.js [-remember] FILE: answers each case of a table that tests/cases/make wrote; tests/cases/README.md says what
 // a line is. With -remember tokens are remembered, and each is judged at several moments first.
 const assert = require('node:assert');
 const fs = require('node:fs');
@@ -15,7 +15,7 @@ const ALGORITHMS = { 1: 'HS256', 2: 'HS384', 3: 'HS512' };
 const FORMS = { 1: 'compact', 2: 'general', 3: 'flattened' };
 const FAR = 1_000_000_000n;
 const REMEMBERS = process.argv.includes('-remember');
-const OPENING = { mostQuestions: Infinity, remember: { tokens: REMEMBERS ? 100 : 0, octets: 2 ** 20 } };
+const OPENING = { remember: { tokens: REMEMBERS ? 100 : 0, octets: 2 ** 20 } };
 const NOTHING = { signature: 0, key: 0, work: 0, states: [], tries: [] };
 
 const octetsOf = (word) => (word === '-' ? Buffer.alloc(0) : Buffer.from(word, 'hex'));

@@ -61,8 +61,6 @@ export interface Opening {
    * tokens lie in memory until they go, and aren't wiped.
    */
   remember?: Remember;
-  /** How many questions about public keys one token may raise: 64 without it, and never more than 32,768. `max_calls` bounds them. */
-  mostQuestions?: number;
   /**
    * Each token is let in once: `validate` takes what is accepted and meets the access rule, by issuer and `jti`, until its `exp` and the leeway, and throws
    * NotTaken for what was taken, has no `jti` or no `exp`, or finds no room. A number is how many tokens are held at most: as many as are accepted within
@@ -141,11 +139,6 @@ export class AnotherLibrary extends FowharimuError {
 }
 /** The validator is closed. */
 export class Closed extends FowharimuError {}
-/** One token could raise more questions about public keys than are taken. */
-export class TooManyQuestions extends FowharimuError {
-  readonly most: number;
-  readonly allowed: number;
-}
 /** The policy is refused; `member` is the name of the member that the fault speaks of. */
 export class PolicyRefused extends FowharimuError {
   readonly fault: string;
@@ -285,7 +278,7 @@ export class Proofs {
  */
 export class Validator {
   /**
-   * Both are JSON texts, as the program `jwt` takes them, or what is written as them. Throws PolicyRefused, KeysRefused, TooManyQuestions,
+   * Both are JSON texts, as the program `jwt` takes them, or what is written as them. Throws PolicyRefused, KeysRefused,
    * AnotherLibrary, TypeError and RangeError for what is no Document, and an Error where memory is refused.
    */
   constructor(policy: Document, keys: Document, how?: Opening);

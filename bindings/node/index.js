@@ -14,11 +14,9 @@ const NOT_EXPECTED = 9, OTHER_NONCE = 1303, TAKEN_NEW = 1, NOT_TAKEN = { 2: 'See
 const UNMET = { 1: 'Absent', 2: 'Other' };
 /** FOW_BOUND_NOT of fowharimu.h. */
 const NOT_BOUND = 0;
-/** FOW_MOST_QUESTIONS of fowharimu.h. */
-const MOST_QUESTIONS = 64;
 const NOTHING_REMEMBERED = { tokens: 0, octets: 0 };
 /** The names of options. */
-const OPENING = ['mostQuestions', 'remember', 'once'], REMEMBER = ['tokens', 'octets'], ISSUING = ['key', 'alg', 'form', 'typ'];
+const OPENING = ['remember', 'once'], REMEMBER = ['tokens', 'octets'], ISSUING = ['key', 'alg', 'form', 'typ'];
 const ASKING = ['access', 'expected', 'hashes', 'holder', 'now'], SHOWING = ['dpop', 'method', 'uri', 'nonce', 'nonces'];
 const GREATEST_NUMBER = 2 ** 32 - 1;
 const PARTS = { 1: 'payload', 2: 'protected', 3: 'signature' };
@@ -37,7 +35,6 @@ class FowharimuError extends Error {
 const named = (kind, name) => Object.defineProperty(kind.prototype, 'name', { value: name, configurable: true, writable: true });
 class AnotherLibrary extends FowharimuError {}
 class Closed extends FowharimuError {}
-class TooManyQuestions extends FowharimuError {}
 class PolicyRefused extends FowharimuError {}
 class KeysRefused extends FowharimuError {}
 class IssueRefused extends FowharimuError {}
@@ -53,7 +50,7 @@ class NotExpected extends TokenRefused {}
 class NotHeld extends TokenRefused {}
 class NotTaken extends TokenRefused {}
 const ERRORS = {
-  FowharimuError, AnotherLibrary, Closed, TooManyQuestions, PolicyRefused, KeysRefused, IssueRefused, AccessRefused, Denied, TokenRefused,
+  FowharimuError, AnotherLibrary, Closed, PolicyRefused, KeysRefused, IssueRefused, AccessRefused, Denied, TokenRefused,
   TooLong, FormRefused, CeilingReached, SignatureRefused, ClaimsRefused, NotExpected, NotHeld, NotTaken,
 };
 for (const [name, kind] of Object.entries(ERRORS)) named(kind, name);
@@ -372,20 +369,12 @@ class Validator {
 
   constructor(policy, keys, options = {}) {
     compareLibrary();
-    const members = own(options, OPENING, 'a validator'), { mostQuestions = MOST_QUESTIONS, remember = NOTHING_REMEMBERED } = members;
-    ofKind('number', { mostQuestions }, 'mostQuestions');
+    const members = own(options, OPENING, 'a validator'), { remember = NOTHING_REMEMBERED } = members;
     const { tokens, octets: longest } = own(remember, REMEMBER, 'remember');
     const room = [whole(tokens, 'remember.tokens'), whole(longest, 'remember.octets')];
     this.#once = onceOf(members);
     const text = octets(policy), held = native.open(text, octets(keys));
     if (typeof held === 'number') throw documentRefused(held, text);
-    const most = native.mostQuestions(held);
-    if (!(most <= mostQuestions)) {
-      native.close(held);
-      throw new TooManyQuestions(
-        `one token could raise ${most} questions about public keys, and ${mostQuestions} are taken: set max_calls in the policy`,
-        { most, allowed: mostQuestions });
-    }
     native.remember(held, ...room);
     this.#held = held;
     this.#terms = { issuer: native.soleIssuer(held), limit: native.tokenLimit(held), isPublic: native.isPublic(held) };
@@ -529,7 +518,7 @@ const textMember = (document, name) => native.textMember(document, name);
 
 // (each by its name: so that `import { Validator } from 'fowharimu'` finds them)
 module.exports = {
-  Validator, Access, Once, Nonces, Proofs, Proof, Certificate, UNBOUND, FowharimuError, AnotherLibrary, Closed, TooManyQuestions, PolicyRefused, KeysRefused, IssueRefused, AccessRefused,
+  Validator, Access, Once, Nonces, Proofs, Proof, Certificate, UNBOUND, FowharimuError, AnotherLibrary, Closed, PolicyRefused, KeysRefused, IssueRefused, AccessRefused,
   Denied, TokenRefused, TooLong, FormRefused, CeilingReached, SignatureRefused, ClaimsRefused, NotExpected, NotHeld, NotTaken, textMember,
 };
 // (for renewal.js, requests.js and remote.js alone)

@@ -24,7 +24,7 @@ const SECURE = { minVersion: 'TLSv1.2', maxVersion: 'TLSv1.3', ciphers: constant
 /** The times in milliseconds, where none are given. */
 const TIMES = { refreshAfter: 600_000, cooldown: 30_000, maxAge: 3_600_000, timeout: 5_000 };
 /** The names of options, those of a validator among them. */
-const REMOTE = [...Object.keys(TIMES), 'allowHttp', 'ca', 'onFetch', 'mostQuestions', 'remember', 'once'];
+const REMOTE = [...Object.keys(TIMES), 'allowHttp', 'ca', 'onFetch', 'remember', 'once'];
 /** The longest time that a timer takes. */
 const LONGEST = 2 ** 31 - 1;
 
@@ -66,8 +66,8 @@ function kept(policy) {
 
 /** The options that are those of a validator. */
 function validating(how) {
-  const { mostQuestions, remember } = how;
-  return Object.hasOwn(how, 'once') ? { mostQuestions, remember, once: how.once } : { mostQuestions, remember };
+  const { remember } = how;
+  return Object.hasOwn(how, 'once') ? { remember, once: how.once } : { remember };
 }
 
 /** The authorities that are trusted, and how: made once, since it holds all of them. */

@@ -3,7 +3,7 @@ import { Access, AccessRefused, AnotherLibrary, Certificate, ClaimsRefused, Deni
 import { Issuers } from './issuers';
 import { RemoteKeys } from './remote';
 
-const validator: Validator = new Validator({ algs: ['HS256'] }, '{"keys":[]}', { mostQuestions: 8, remember: { tokens: 1000, octets: 4096 } });
+const validator: Validator = new Validator({ algs: ['HS256'] }, '{"keys":[]}', { remember: { tokens: 1000, octets: 4096 } });
 const claims: unknown = validator.validate('a.b.c').iss;
 const text: string = validator.validateText(new Uint8Array(3), 7n);
 const report: Report = validator.judge('a.b.c', 1300819379);

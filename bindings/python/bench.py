@@ -6,7 +6,7 @@ import time
 from typing import Callable
 
 from fowharimu import Validator
-from fowharimu._replies import token_in
+from fowharimu._replies import Scheme, token_in
 from fowharimu.remote import RemoteKeys
 
 ROUNDS = 400
@@ -43,7 +43,7 @@ def main(hmac: str, rsa: str, url: str) -> None:
     with RemoteKeys(policy, url, allow_http=True, remember=REMEMBER) as remote:
         measure("RS256 claims, remembered, keys by URL", 200, lambda: remote.validate(token, NOW))
     value = b"Bearer " + token
-    measure("Authorization", 200, lambda: token_in(value))
+    measure("Authorization", 200, lambda: token_in(Scheme.BEARER, value))
 
 
 if __name__ == "__main__":

@@ -1,11 +1,11 @@
-"""cases.py [-remember] FILE: answers each case of a table that tests/cases/make wrote, over OpenSSL; with -remember each of them after the token was
+"""cases.py [-remember] FILE: answers each case of a table that tests/cases/make wrote, and with -remember each of them after the token was
 judged before. tests/cases/README.md says what a line is."""
 import dataclasses
 import json
 import sys
 from typing import Optional, Union
 
-from fowharimu import Access, AccessRefused, CeilingReached, ClaimsRefused, Denied, FormRefused, FowharimuError, IssueRefused, KeysRefused, PolicyRefused, Report, SignatureRefused, TooLong, Undecided, Validator
+from fowharimu import Access, AccessRefused, CeilingReached, ClaimsRefused, Denied, FormRefused, FowharimuError, IssueRefused, KeysRefused, PolicyRefused, Report, SignatureRefused, TooLong, Validator
 
 PARTS = {None: 0, "payload": 1, "protected": 2, "signature": 3}
 STATES = {"barred": 1, "no key": 2, "bad signature": 3, "verified": 4, "not reached": 5, "stopped": 6}
@@ -31,7 +31,7 @@ def spelled(text: Optional[str]) -> str:
 
 def line_of(verdict: str, refusal: Optional[FowharimuError], signature: object, key: object, work: object = 0, states: str = "", tries: str = "", claims: str = "-") -> str:
     """An answer. What a refusal says beside the report has to be the same."""
-    fault = "-" if refusal is None or isinstance(refusal, Undecided) else f"{KINDS[type(refusal)]}.{refusal.fault}"
+    fault = "-" if refusal is None else f"{KINDS[type(refusal)]}.{refusal.fault}"
     claim = getattr(refusal, "claim", None) or getattr(refusal, "member", None) or getattr(refusal, "scope", None)
     for name, value in (("signature", signature), ("key", key)):
         if getattr(refusal, name, value) != value:
@@ -63,7 +63,7 @@ def judged(validator: Validator, token: bytes, now: int, access: Optional[Access
     except FowharimuError as error:
         if type(error) is not type(refusal) or error.args != refusal.args:
             raise
-    verdict = "accepted" if report.accepted else "asks" if isinstance(refusal, Undecided) else "refused"
+    verdict = "accepted" if report.accepted else "refused"
     return line_of(verdict, refusal, report.signature, report.key, report.work, states, tries, claims)
 
 
@@ -89,7 +89,7 @@ def issued(validator: Validator, alg: str, form: str, key: str, typ: bytes, clai
 def opened(policy: str, keys: str) -> Union[Validator, FowharimuError]:
     """A validator, or why there is none."""
     try:
-        return Validator(octets_of(policy), octets_of(keys), most_questions=None, remember=REMEMBER)
+        return Validator(octets_of(policy), octets_of(keys), remember=REMEMBER)
     except (PolicyRefused, KeysRefused) as refusal:
         return refusal
 

@@ -4,6 +4,6 @@ package fowharimu
 
 // This module has the library inside: public keys are verified by its proved verifiers, and no other library is needed.
 
-// #cgo CFLAGS: -DFOWHARIMU_PROVED -I${SRCDIR}/include
+// #cgo CFLAGS: -I${SRCDIR}/include
 // #cgo LDFLAGS: ${SRCDIR}/lib/libfowharimu.a
 import "C"

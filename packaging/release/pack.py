@@ -57,6 +57,11 @@ def newest(libraries: list[pathlib.Path]) -> int:
     return max([OLDEST, *(int(it) for it in re.findall(r"GLIBC_2\.(\d+)", "".join(said)))])
 
 
+def names_libraries(file: pathlib.Path) -> bool:
+    """Whether a file names a library that it is loaded with."""
+    return "NEEDED" in subprocess.run(["objdump", "-p", file], check=True, capture_output=True, text=True).stdout
+
+
 def row(name: str, octets: bytes) -> str:
     """A line of a wheel's RECORD."""
     digest = base64.urlsafe_b64encode(hashlib.sha256(octets).digest()).rstrip(b"=").decode()
@@ -67,7 +72,10 @@ def write_wheel(folder: pathlib.Path, version: str, readme: pathlib.Path, out: p
     """Writes a wheel (PEP 427): one with the module in C is for the stable interface of CPython 3.9 and later (PEP 384), another for each Python."""
     library, module = folder / "fowharimu/libfowharimu.so.0", folder / "fowharimu/_calls.abi3.so"
     python, compiled = ("cp39-abi3", [library, module]) if module.exists() else ("py3-none", [library])
-    tag = f"{python}-manylinux_2_{newest(compiled)}_x86_64"
+    if any(map(names_libraries, compiled)):
+        sys.exit("pack: what is in a wheel has to run with each C library, and names one")
+    systems = f"manylinux_2_{newest(compiled)}_x86_64", "musllinux_1_1_x86_64"
+    tag = f"{python}-{'.'.join(systems)}"
     info = f"fowharimu-{version}.dist-info"
     files = files_in(folder)
     files[f"{info}/METADATA"] = (
@@ -75,7 +83,8 @@ def write_wheel(folder: pathlib.Path, version: str, readme: pathlib.Path, out: p
         "Summary: Validates JSON Web Tokens by a library that is proved correct\n"
         "License: Apache-2.0\nRequires-Python: >=3.9\nDescription-Content-Type: text/markdown\n\n" + readme.read_text()
     ).encode()
-    files[f"{info}/WHEEL"] = f"Wheel-Version: 1.0\nGenerator: fowharimu\nRoot-Is-Purelib: false\nTag: {tag}\n".encode()
+    tags = "".join(f"Tag: {python}-{it}\n" for it in systems)
+    files[f"{info}/WHEEL"] = f"Wheel-Version: 1.0\nGenerator: fowharimu\nRoot-Is-Purelib: false\n{tags}".encode()
     record = "".join(row(name, octets) for name, octets in files.items()) + f"{info}/RECORD,,\n"
     files[f"{info}/RECORD"] = record.encode()
     write_zip(files, out / f"fowharimu-{version}-{tag}.whl")

@@ -1,8 +1,8 @@
-/* agree: OpenSSL and the proved verifiers are asked about the same tokens, made here from a fixed seed, and have to say what is expected: good
- * signatures, their other spellings, forged ones, and keys that aren't taken. Of Ed448, for which the library has no proved verifier, OpenSSL's
- * answer is compared with what is expected alone. */
+/* agree [SEED]: the library is asked about tokens that OpenSSL signs here by keys of its own, always the same by one seed, and has to say what is expected:
+ * good signatures, their other spellings, forged ones, and keys that aren't taken. Where OpenSSL takes the key, it is asked too, and has to say the same. Of
+ * Ed448, for which the library has no verifier, each is refused. */
 #define OPENSSL_SUPPRESS_DEPRECATED /* (RAND_set_rand_method, by which the seed is fixed) */
-#include <fowharimu_openssl.h>
+#include <fowharimu.h>
 #include <openssl/bn.h>
 #include <openssl/core_names.h>
 #include <openssl/crypto.h>
@@ -16,7 +16,7 @@
 
 #include "octets.h"
 
-/* ---- numbers from a fixed seed (xorshift), also for OpenSSL's keys and salts */
+/* ---- numbers from a seed (xorshift), also for OpenSSL's keys and salts */
 
 static uint64_t drawn = 88172645463325252u;
 
@@ -60,37 +60,70 @@ static const algorithm rsa[] = {
     { "PS512", EVP_sha512, 1, 1 },
 };
 
-/* What is signed, and by which key set it is judged. */
+/* What is signed, and by which key set it is judged; the key of that set as OpenSSL has it, where it takes it. */
 typedef struct asking {
     const algorithm *alg;
+    EVP_PKEY *key;
     char keys[MOST], input[4096];
     size_t input_len;
 } asking;
 
-static long cases, wrong;
-
-static uint32_t judge_by_proofs(fow_validator *validator, const uint8_t *token, size_t len, fow_report *report)
-{
-    fow_forget(validator);
-    while (fow_judge(validator, token, len, NOW, report) == FOW_ASKS
-        && fow_answer_proved(validator, token, len, report->signature, report->key) == FOW_OK)
-        ;
-    return report->verdict;
-}
+static long cases, wrong, asked;
 
 static int is_as(const fow_report *report, int is_good)
 {
     return is_good ? report->verdict == FOW_OK : report->verdict == FOW_REFUSED && report->fault == FOW_SIG_BAD_SIGNATURE;
 }
 
-/* Judges the input with a signature by both. */
+/* Has OpenSSL sign or verify by this algorithm. */
+static void set_padding(const algorithm *alg, EVP_PKEY_CTX *context)
+{
+    if (alg->is_pss)
+        CHECK(EVP_PKEY_CTX_set_rsa_padding(context, RSA_PKCS1_PSS_PADDING) == 1
+            && EVP_PKEY_CTX_set_rsa_pss_saltlen(context, RSA_PSS_SALTLEN_DIGEST) == 1);
+}
+
+/* The two numbers of a signature by ECDSA as OpenSSL takes them; 0 where the octets aren't two of this size. */
+static size_t pair_as_der(const uint8_t *signature, size_t len, size_t half, uint8_t *der)
+{
+    if (len != 2 * half)
+        return 0;
+    ECDSA_SIG *pair = ECDSA_SIG_new();
+    CHECK(ECDSA_SIG_set0(pair, BN_bin2bn(signature, (int)half, NULL), BN_bin2bn(signature + half, (int)half, NULL)) == 1);
+    int der_len = i2d_ECDSA_SIG(pair, &der);
+    CHECK(der_len > 0);
+    ECDSA_SIG_free(pair);
+    return (size_t)der_len;
+}
+
+/* What OpenSSL says of a signature. It doesn't look at the length for PSS (RFC 8017, section 8.1.2, step 1). */
+static int is_valid(const asking *it, const uint8_t *signature, size_t len)
+{
+    uint8_t der[160];
+    EVP_PKEY_CTX *inner;
+    if (EVP_PKEY_get_base_id(it->key) == EVP_PKEY_RSA && len != (size_t)EVP_PKEY_get_size(it->key))
+        return 0;
+    if (EVP_PKEY_get_base_id(it->key) == EVP_PKEY_EC) {
+        len = pair_as_der(signature, len, (size_t)(EVP_PKEY_get_bits(it->key) + 7) / 8, der);
+        signature = der;
+    }
+    if (len == 0)
+        return 0;
+    EVP_MD_CTX *context = EVP_MD_CTX_new();
+    CHECK(EVP_DigestVerifyInit(context, &inner, it->alg->digest == NULL ? NULL : it->alg->digest(), NULL, it->key) == 1);
+    set_padding(it->alg, inner);
+    int said = EVP_DigestVerify(context, signature, len, (const uint8_t *)it->input, it->input_len);
+    EVP_MD_CTX_free(context);
+    return said == 1;
+}
+
+/* Judges the input with a signature. */
 static void compare(const asking *it, const char *what, const uint8_t *signature, size_t signature_len, int is_good)
 {
     static uint8_t token[MOST];
     char policy[64];
     fow_validator validator = FOW_VALIDATOR_INIT;
-    fow_openssl crypto = FOW_OPENSSL_INIT;
-    fow_report by_openssl, by_proofs;
+    fow_report report;
     uint32_t fault;
     memcpy(token, it->input, it->input_len);
     size_t len = it->input_len;
@@ -98,15 +131,18 @@ static void compare(const asking *it, const char *what, const uint8_t *signature
     len += encode(signature, signature_len, (char *)token + len);
     int policy_len = sprintf(policy, "{\"algs\":[\"%s\"],\"limit\":65536}", it->alg->name);
     CHECK(fow_open(&validator, (uint8_t *)policy, (size_t)policy_len, (const uint8_t *)it->keys, strlen(it->keys), &fault) == FOW_OK);
-    fow_openssl_judge(&crypto, &validator, token, len, NOW, &by_openssl);
-    judge_by_proofs(&validator, token, len, &by_proofs);
+    fow_judge(&validator, token, len, NOW, &report);
     cases++;
-    if (!is_as(&by_openssl, is_good) || (it->alg->is_proved ? !is_as(&by_proofs, is_good) : by_proofs.verdict != FOW_ASKS)) {
+    asked += it->key != NULL;
+    if (it->key != NULL && is_valid(it, signature, signature_len) != is_good) {
         wrong++;
-        printf("%s, %s: OpenSSL %u %s, proved %u %s, expected %s\n%s\n", it->alg->name, what, by_openssl.verdict,
-            fow_fault_name(by_openssl.fault), by_proofs.verdict, fow_fault_name(by_proofs.fault), is_good ? "accepted" : "refused", it->keys);
+        printf("%s, %s: OpenSSL says otherwise than %s\n%s\n", it->alg->name, what, is_good ? "accepted" : "refused", it->keys);
     }
-    fow_openssl_clear(&crypto);
+    if (!is_as(&report, is_good && it->alg->is_proved)) {
+        wrong++;
+        printf("%s, %s: %u %s, expected %s\n%s\n", it->alg->name, what, report.verdict, fow_fault_name(report.fault), is_good ? "accepted" : "refused",
+            it->keys);
+    }
     fow_close(&validator);
 }
 
@@ -135,9 +171,7 @@ static size_t sign(const asking *it, EVP_PKEY *key, uint8_t *signature, size_t r
     EVP_PKEY_CTX *inner;
     EVP_MD_CTX *context = EVP_MD_CTX_new();
     CHECK(EVP_DigestSignInit(context, &inner, it->alg->digest == NULL ? NULL : it->alg->digest(), NULL, key) == 1);
-    if (it->alg->is_pss)
-        CHECK(EVP_PKEY_CTX_set_rsa_padding(inner, RSA_PKCS1_PSS_PADDING) == 1
-            && EVP_PKEY_CTX_set_rsa_pss_saltlen(inner, RSA_PSS_SALTLEN_DIGEST) == 1);
+    set_padding(it->alg, inner);
     CHECK(EVP_DigestSign(context, signature, &room, (const uint8_t *)it->input, it->input_len) == 1);
     EVP_MD_CTX_free(context);
     return room;
@@ -283,6 +317,7 @@ static void compare_rsa(unsigned bits, const char *exponent, int is_taken, int m
         for (int m = 0; m < messages; m++) {
             write_input(&it, &rsa[a]);
             write_rsa_key(&it, n, e, (size_t)m % 3);
+            it.key = is_taken ? key : NULL;
             size_t len = sign(&it, key, signature, sizeof signature);
             compare(&it, "signed", signature, len, is_taken);
             compare_spellings(&it, signature, len, n);
@@ -405,6 +440,7 @@ static void compare_eddsa(const algorithm *alg, const char *curve, size_t half, 
         EVP_PKEY *key = EVP_PKEY_new_raw_private_key_ex(NULL, half == 32 ? "ED25519" : "ED448", NULL, secret, half);
         CHECK(key != NULL && EVP_PKEY_get_raw_public_key(key, x, &x_len) == 1 && x_len == half);
         write_okp_key(&it, curve, x, half);
+        it.key = key;
         write_input(&it, alg);
         size_t len = sign(&it, key, signature, sizeof signature);
         compare(&it, "signed", signature, len, 1);
@@ -413,6 +449,7 @@ static void compare_eddsa(const algorithm *alg, const char *curve, size_t half, 
         compare_orders(&it, signature, half, orders[which]);
         if (i == 0)
             compare_constants(&it, len);
+        it.key = NULL;
         x[draw() % half] ^= (uint8_t)(1 << draw() % 8);
         write_okp_key(&it, curve, x, half);
         compare(&it, "another key, or none", signature, len, 0);
@@ -546,6 +583,7 @@ static void compare_ecdsa(const ec_curve *curve, int keys)
     for (int i = 0; i < keys; i++) {
         EVP_PKEY *key = ec_key(curve, &is);
         write_ec_key(&it, curve, is.x, is.y);
+        it.key = key;
         write_input(&it, &curve->alg);
         size_t len = sign(&it, key, der, sizeof der);
         const uint8_t *at = der;
@@ -559,6 +597,7 @@ static void compare_ecdsa(const ec_curve *curve, int keys)
         compare_pairs(&it, curve, &is);
         if (i == 0)
             compare_constants(&it, 2 * curve->half);
+        it.key = NULL;
         compare_points(&it, curve, &is);
         BN_free(is.r);
         BN_free(is.s);
@@ -578,8 +617,10 @@ static void say(const char *kind)
     before = cases;
 }
 
-int main(void)
+int main(int count, char **words)
 {
+    if (count > 1)
+        drawn ^= strtoull(words[1], NULL, 10);
     CHECK(RAND_set_rand_method(&fixed) == 1);
     compare_rsa(1536, "65537", 0, 1);
     compare_rsa(2047, "65537", 0, 1);
@@ -601,6 +642,6 @@ int main(void)
         compare_ecdsa(&ec[i], 12);
         say(ec[i].alg.name);
     }
-    printf("%ld cases, %ld not as they must be\n", cases, wrong);
+    printf("%ld cases, OpenSSL asked too of %ld, %ld not as they must be\n", cases, asked, wrong);
     return wrong != 0;
 }

@@ -164,6 +164,18 @@ static void check_renewal(void)
     CHECK(answer.has_keys == 1);
     fow_renewal_ask(&keys, 4600, FOW_ASKER_WAITED, 0, &answer);
     CHECK(answer.has_keys == 0 && answer.fetch == FOW_NO_FETCH);
+    /* (a token that was refused before there were any keys) */
+    fow_renewal_begin(&keys, 600, 30, 3600, 5, 1000);
+    fow_renewal_ask(&keys, 1000, FOW_ASKER_REFUSED, 0, &answer);
+    CHECK(answer.has_keys == 0 && answer.fetch == FOW_FETCH_BEGINS && answer.ticket == 1);
+    /* (the greatest time is over as any other is) */
+    fow_renewal_begin(&keys, 5, 1, 10, UINT64_MAX, 0);
+    fow_renewal_ask(&keys, 0, FOW_ASKER_TOKEN, 0, &answer);
+    CHECK(answer.fetch == FOW_FETCH_BEGINS && answer.ticket == 1);
+    fow_renewal_ask(&keys, UINT64_MAX - 1, FOW_ASKER_OWNER, 0, &answer);
+    CHECK(answer.fetch == FOW_FETCH_UNDER_WAY && answer.ticket == 1);
+    fow_renewal_ask(&keys, UINT64_MAX, FOW_ASKER_OWNER, 0, &answer);
+    CHECK(answer.fetch == FOW_FETCH_BEGINS && answer.ticket == 2);
 }
 
 /* Each call ends, whatever numbers stand in the struct. */
@@ -224,6 +236,9 @@ static void check_redirections(void)
     CHECK(fow_redirected(at(url), strlen(url), at("/"), 1, out, 14, &written) == FOW_TOO_SHORT && written == 14);
     CHECK(fow_redirected(at(url), strlen(url), at("//a/"), 4, out, sizeof out, &written) == FOW_REFUSED && written == 14);
     CHECK(fow_redirected(at(url), strlen(url), at(""), 0, out, sizeof out, &written) == FOW_REFUSED);
+    CHECK(fow_redirected(at(url), strlen(url), at("./new"), 5, out, sizeof out, &written) == FOW_REFUSED);
+    CHECK(fow_redirected(at("https://./a"), 11, at("b"), 1, out, sizeof out, &written) == FOW_OK && is_text("https://./b", out, written));
+    CHECK(fow_redirected(at("https://./a"), 11, at("https://./b"), 11, out, sizeof out, &written) == FOW_REFUSED);
     CHECK(fow_redirected(at("x"), 1, at("/"), 1, out, sizeof out, &written) == FOW_REFUSED);
     const char *issuer = "https://a/x/";
     CHECK(fow_metadata_url(FOW_ASKED_OPENID, at(issuer), strlen(issuer), out, sizeof out, &written) == FOW_OK);

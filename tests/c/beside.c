@@ -1,4 +1,4 @@
-/* beside HMAC RSA ROUNDS: eight threads with validators on the same documents open beside one another, judge, answer and close, in an order
+/* beside HMAC RSA ROUNDS: eight threads with validators on the same documents open beside one another, judge and close, in an order
  * that each draws for itself. Those that the others were opened beside are closed first, over and over. */
 #include <fowharimu.h>
 #include <pthread.h>
@@ -28,20 +28,15 @@ static uint32_t draw(task *mine, uint32_t most)
     return mine->drawn % most;
 }
 
-/* Judges a token as it must be, by the proved verifier where it asks. */
+/* Judges a token as it must be. */
 static void judge(fow_validator *seat, int set)
 {
     fow_report report;
     static _Thread_local uint8_t out[MOST];
     size_t written;
-    fow_forget(seat);
     for (int n = 0; n < 2; n++) {
         const octets *it = n == 0 ? &token[set] : &forged[set];
         uint32_t verdict = fow_judge(seat, it->at, it->len, NOW, &report);
-        if (verdict == FOW_ASKS) {
-            CHECK(fow_answer_proved(seat, it->at, it->len, report.signature, report.key) == FOW_OK);
-            verdict = fow_judge(seat, it->at, it->len, NOW, &report);
-        }
         CHECK(verdict == (n == 0 ? FOW_OK : FOW_REFUSED));
     }
     CHECK(fow_accepted_payload(seat, out, sizeof out, &written) == FOW_ABSENT);

@@ -1,14 +1,11 @@
-/* cases [-remember] none|proved|openssl FILE: answers each case of a table, as tests/cases/make writes it, by no verifier of public keys, by the proved ones
- * or by OpenSSL. A line of the table is `open POLICY KEYS`, `judge NAME NOW TOKEN`, `deny NAME NOW RULE TOKEN` or `issue NAME ALG FORM KEY TYP CLAIMS`,
+/* cases [-remember] FILE: answers each case of a table, as tests/cases/make writes it. A line of the table is `open POLICY KEYS`, `judge NAME NOW TOKEN`, `deny NAME NOW RULE TOKEN` or `issue NAME ALG FORM KEY TYP CLAIMS`,
  * with texts in hexadecimal, and `-` for one without octets. A line of the answer has what tests/cases/README.md says. With
  * -remember tokens are remembered: each is judged at several moments and again, and each report has to be the one without a memory. */
 #define _POSIX_C_SOURCE 200809L
-#include <fowharimu_openssl.h>
+#include <fowharimu.h>
 #include <inttypes.h>
 
 #include "octets.h"
-
-enum { NOTHING, PROVED, OPENSSL };
 
 typedef struct text {
     uint8_t *at;
@@ -16,11 +13,9 @@ typedef struct text {
 } text;
 
 static fow_validator validator = FOW_VALIDATOR_INIT;
-static fow_openssl crypto = FOW_OPENSSL_INIT;
 static uint32_t opened = FOW_NOT_OPEN, open_fault;
 static fow_access access_rule = FOW_ACCESS_INIT;
 static text policy, keys, token, rule, typ, claims, out;
-static int verifiers;
 
 /* With -remember: a validator beside, which remembers nothing, and how many verdicts came out of the memory. */
 static fow_validator plain = FOW_VALIDATOR_INIT;
@@ -145,16 +140,6 @@ static void print_not_opened(const char *name)
     printf("\t0\t\t\t-\n");
 }
 
-static void judge_by(fow_validator *by, int64_t now, fow_report *report)
-{
-    if (verifiers == PROVED)
-        fow_proved_judge(by, token.at, token.len, now, report);
-    else if (verifiers == OPENSSL)
-        fow_openssl_judge(&crypto, by, token.at, token.len, now, report);
-    else
-        fow_judge(by, token.at, token.len, now, report);
-}
-
 /* What is kept of a judging is the same with a memory and without. */
 static void check_kept_alike(uint64_t tries)
 {
@@ -200,13 +185,11 @@ static void judge_often(int64_t now)
     const int64_t moments[] = { now, now, moved(now, FAR), moved(now, -FAR), now };
     for (size_t i = 0; i < sizeof moments / sizeof *moments; i++) {
         fow_report one = { 0 }, other = { 0 };
-        judge_by(&validator, moments[i], &one);
-        judge_by(&plain, moments[i], &other);
+        fow_judge(&validator, token.at, token.len, moments[i], &one);
+        fow_judge(&plain, token.at, token.len, moments[i], &other);
         CHECK(memcmp(&one, &other, sizeof one) == 0 && !fow_remembered(&plain));
         check_kept_alike(one.tries);
         remembered += fow_remembered(&validator);
-        fow_forget(&validator);
-        fow_forget(&plain);
     }
 }
 
@@ -214,7 +197,7 @@ static void judge_token(int64_t now, fow_report *report)
 {
     if (remembers)
         judge_often(now);
-    judge_by(&validator, now, report);
+    fow_judge(&validator, token.at, token.len, now, report);
 }
 
 /* What is said of the token that was judged just now; `denial` where it is accepted and the rule that is held denies it. */
@@ -243,7 +226,6 @@ static void print_judged(const char *name, const fow_report *report, uint32_t de
         putchar('-');
     }
     putchar('\n');
-    fow_forget(&validator);
 }
 
 static void answer_judge(char *line)
@@ -344,12 +326,10 @@ int main(int argc, char **argv)
 {
     char *line = NULL;
     size_t room = 0;
-    remembers = argc == 4 && strcmp(argv[1], "-remember") == 0;
+    remembers = argc == 3 && strcmp(argv[1], "-remember") == 0;
     argv += remembers;
-    CHECK(argc - remembers == 3);
-    verifiers = strcmp(argv[1], "proved") == 0 ? PROVED : strcmp(argv[1], "openssl") == 0 ? OPENSSL : NOTHING;
-    CHECK(verifiers != NOTHING || strcmp(argv[1], "none") == 0);
-    FILE *table = fopen(argv[2], "rb");
+    CHECK(argc - remembers == 2);
+    FILE *table = fopen(argv[1], "rb");
     CHECK(table != NULL);
     while (getline(&line, &room, table) > 0)
         answer_line(line);
@@ -358,7 +338,6 @@ int main(int argc, char **argv)
     free(line);
     for (text *const *it = (text *const[]){ &policy, &keys, &token, &rule, &typ, &claims, &out, NULL }; *it != NULL; it++)
         free((*it)->at);
-    fow_openssl_clear(&crypto);
     fow_access_close(&access_rule);
     fow_close(&validator);
     fow_close(&plain);

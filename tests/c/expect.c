@@ -30,7 +30,7 @@ static void issue(uint32_t alg, uint32_t form, const char *claims)
 static uint32_t judge(int64_t now)
 {
     fow_report report;
-    return fow_proved_judge(&validator, token.at, token.len, now, &report);
+    return fow_judge(&validator, token.at, token.len, now, &report);
 }
 
 static void accept(uint32_t alg, const char *claims)
@@ -187,7 +187,7 @@ static void check_signatures(void)
     second = token;
     /* (the first signature is one of another payload, and doesn't verify) */
     token.len = (size_t)snprintf((char *)token.at, sizeof token.at, "%s%s\",\"signatures\":[%s,%s]}", payload, encoded, signature_in(&first), signature_in(&second));
-    CHECK(fow_proved_judge(&validator, token.at, token.len, NOW, &report) == FOW_OK && report.signature == 1);
+    CHECK(fow_judge(&validator, token.at, token.len, NOW, &report) == FOW_OK && report.signature == 1);
     CHECK(hash_of(&validator, report.signature, "c_hash", code) == FOW_OK);
     CHECK(hash_of(&validator, 0, "c_hash", code) == FOW_ABSENT);
     CHECK(hash_of(&validator, 2, "c_hash", code) == FOW_ABSENT);

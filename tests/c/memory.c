@@ -71,41 +71,6 @@ static uint32_t judge_it(void)
     return fow_judge(&validator, token.at, token.len, NOW, &report);
 }
 
-static uint32_t ask_it(void)
-{
-    fow_question asked;
-    return fow_ask(&validator, token.at, token.len, 0, 0, out, sizeof out, &asked);
-}
-
-static uint32_t asked_of_it(void)
-{
-    fow_question asked;
-    return fow_asked(&validator, out, sizeof out, &asked);
-}
-
-/* (a question whose answer was refused memory is asked again by the next judging) */
-static uint32_t answer_asked(void)
-{
-    uint32_t verdict = judge_it();
-    return verdict == FOW_ASKS ? fow_answer_asked(&validator, true) : verdict;
-}
-
-static uint32_t answer_it(void)
-{
-    return fow_answer(&validator, token.at, token.len, 0, 0, true);
-}
-
-static uint32_t answer_by_proof(void)
-{
-    return fow_answer_proved(&validator, token.at, token.len, 0, 0);
-}
-
-static uint32_t judge_by_proof(void)
-{
-    fow_report report;
-    return fow_proved_judge(&validator, token.at, token.len, NOW, &report);
-}
-
 static uint32_t remember_some(void)
 {
     return fow_remember(&validator, 2, 4096);
@@ -280,8 +245,8 @@ static void refuse_keeping(const char *name, const char *again, uint32_t (*judge
     CHECK(fow_remember(&validator, 0, 0) == FOW_OK);
 }
 
-/* The calls on a token that is accepted at once, or on one by a public key, which raises a question. */
-static void refuse_on(const char *name, uint32_t verdict)
+/* The calls on a token that is accepted. */
+static void refuse_on(const char *name)
 {
     read_named(&policy, name, "policy");
     read_named(&keys, name, "keys");
@@ -290,34 +255,24 @@ static void refuse_on(const char *name, uint32_t verdict)
     refuse_each("fow_open", open_it, FOW_OK);
     refuse_each("fow_open_beside", open_beside, FOW_OK);
     refuse_each("fow_open_beside, opened anew", open_beside, FOW_OK);
-    refuse_each("fow_judge", judge_it, verdict);
-    refuse_each("fow_asked", asked_of_it, verdict == FOW_ASKS ? FOW_OK : FOW_ABSENT);
+    refuse_each("fow_judge", judge_it, FOW_OK);
     refuse_each("fow_payload", payload_of_it, FOW_OK);
     refuse_each("fow_unverified_header", header_of_it, FOW_OK);
     refuse_each("fow_unverified_issuer", issuer_of_it, FOW_OK);
     long asked = asked_for;
     policy_of_it();
     CHECK(asked_for == asked);
-    refuse_each("fow_ask", ask_it, verdict == FOW_ASKS ? FOW_OK : FOW_ABSENT);
-    refuse_each("fow_answer", answer_it, FOW_OK);
-    refuse_each("fow_judge, told", judge_it, FOW_OK);
+    CHECK(judge_it() == FOW_OK);
     CHECK(payload_of_the_accepted() == FOW_OK);
     refuse_each("fow_claim", claim_of_it, FOW_OK);
     refuse_each("fow_remember", remember_some, FOW_OK);
     refuse_keeping("fow_judge, over a memory", "fow_judge, out of a memory", judge_it);
-    CHECK(judge_it() == FOW_OK);
-    fow_forget(&validator);
-    refuse_each("fow_answer_asked", answer_asked, FOW_OK);
-    fow_forget(&validator);
-    refuse_each("fow_answer_proved", answer_by_proof, verdict == FOW_ASKS ? FOW_OK : FOW_ABSENT);
-    refuse_each("fow_proved_judge", judge_by_proof, FOW_OK);
-    refuse_keeping("fow_proved_judge, over a memory", "fow_proved_judge, out of a memory", judge_by_proof);
     fow_close(&validator);
 
     /* (the second holds the documents on) */
     validator = second;
     second = (fow_validator)FOW_VALIDATOR_INIT;
-    refuse_each("fow_judge, beside", judge_it, verdict);
+    refuse_each("fow_judge, beside", judge_it, FOW_OK);
     fow_close(&validator);
     CHECK(held == before);
 }
@@ -326,9 +281,9 @@ int main(int argc, char **argv)
 {
     CHECK(argc == 4);
     long nothing = held;
-    refuse_on(argv[2], FOW_ASKS);
-    refuse_on(argv[3], FOW_ASKS);
-    refuse_on(argv[1], FOW_OK);
+    refuse_on(argv[2]);
+    refuse_on(argv[3]);
+    refuse_on(argv[1]);
     refuse_each("fow_refused_member", member_of_policy, FOW_OK);
     refuse_each("fow_access_refused", claim_of_rule, FOW_OK);
     refuse_each("fow_text_member", text_of_document, FOW_OK);

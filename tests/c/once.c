@@ -19,7 +19,7 @@ static uint32_t judge(fow_validator *by, const char *claims, int64_t now)
     fow_report report;
     CHECK(fow_issue(by, FOW_HS256, FOW_COMPACT, 0, (const uint8_t *)"", 0, (const uint8_t *)claims, strlen(claims), issued, sizeof issued,
               &written, &report) == FOW_OK);
-    return fow_proved_judge(by, issued, written, now, &report);
+    return fow_judge(by, issued, written, now, &report);
 }
 
 /* Judges a token with these claims, which is accepted, and takes it: what became of it. */
@@ -56,6 +56,12 @@ static void check_entries(void)
     CHECK(judge(&validator, "{\"iss\":\"ia\",\"jti\":\"\",\"exp\":-100}", -200) == FOW_OK);
     CHECK(fow_once_entry(&validator, other, sizeof other, &until, &lacks) == FOW_OK && until == 0);
     CHECK(memcmp(mark, other, FOW_MARK_LEN) != 0);
+    /* (no issuer, and an empty one) */
+    CHECK(judge(&validator, "{\"jti\":\"a\",\"exp\":1000}", 900) == FOW_OK);
+    CHECK(fow_once_entry(&validator, mark, sizeof mark, &until, &lacks) == FOW_OK);
+    CHECK(judge(&validator, "{\"iss\":\"\",\"jti\":\"a\",\"exp\":1000}", 900) == FOW_OK);
+    CHECK(fow_once_entry(&validator, other, sizeof other, &until, &lacks) == FOW_OK);
+    CHECK(memcmp(mark, other, FOW_MARK_LEN) == 0);
 }
 
 /* A memory and a validator that hold nothing, and a validator that has accepted nothing. */
@@ -73,7 +79,7 @@ static void check_none(fow_once *once)
     CHECK(fow_once_take(once, &validator, NOW, &taken) == FOW_ABSENT && taken == FOW_TAKEN_NOTHING);
     CHECK(judge(&validator, "{\"jti\":\"a\",\"exp\":1300819380}", NOW + 3600) == FOW_REFUSED);
     CHECK(fow_once_take(once, &validator, NOW + 3600, &taken) == FOW_ABSENT);
-    CHECK(fow_proved_judge(&validator, token.at, token.len, NOW, &report) == FOW_OK);
+    CHECK(fow_judge(&validator, token.at, token.len, NOW, &report) == FOW_OK);
     CHECK(fow_once_take(once, &validator, NOW, &taken) == FOW_REFUSED && taken == FOW_TAKEN_NO_ID);
     CHECK(take(once, "{\"jti\":\"a\"}", NOW) == FOW_TAKEN_NO_END);
     /* (the refused token was not taken) */

@@ -1,5 +1,5 @@
-/* possession CASES HMAC: proofs of possession, and how a token is bound. CASES is tests/possession/cases.jsonl, whose access tokens are accepted by the key of
- * HMAC, the name of a token with its key set: that of RFC 7515, appendix A.1. Linked with --wrap=malloc,--wrap=realloc. */
+/* possession CASES: proofs of possession, and how a token is bound. CASES is tests/possession/cases.jsonl, whose first line has the policy and the key set by which
+ * its access tokens are accepted. Linked with --wrap=malloc,--wrap=realloc. */
 #include <fowharimu.h>
 #include <string.h>
 
@@ -9,8 +9,6 @@ enum { LINE = 65536, MOMENT = 1700000000, LIFE = 65 };
 
 static const char policy[] = "{\"algs\":[\"ES256\",\"ES384\",\"ES512\",\"RS256\",\"PS256\",\"EdDSA\"],\"typ\":\"dpop+jwt\",\"required\":[\"jti\",\"htm\",\"htu\",\"iat\"],"
                              "\"max_age\":60,\"leeway\":5}";
-static const char access_policy[] = "{\"algs\":[\"HS256\"]}";
-static octets keys;
 static fow_validator validator = FOW_VALIDATOR_INIT;
 static fow_possession possession = FOW_POSSESSION_INIT;
 static fow_once once = FOW_ONCE_INIT;
@@ -77,6 +75,32 @@ static void text_in(const char *line, const char *name, char *text, size_t room)
     text[status == FOW_OK ? written : 0] = 0;
 }
 
+/* An object of the first line, as it stands there. No text in it has braces. */
+static const char *object_in(const char *line, const char *name, size_t *len)
+{
+    const char *from = strstr(line, name);
+    int depth = 0;
+    CHECK(from != NULL && (from = strchr(from, '{')) != NULL);
+    for (*len = 0; *len == 0 || depth > 0; ++*len) {
+        CHECK(from[*len] != 0);
+        depth += (from[*len] == '{') - (from[*len] == '}');
+    }
+    return from;
+}
+
+/* Opens the validator by the documents of the first line. */
+static void open_validator(const char *path)
+{
+    static char line[LINE];
+    size_t policy_len, keys_len;
+    uint32_t fault;
+    FILE *cases = fopen(path, "r");
+    CHECK(cases != NULL && fgets(line, sizeof line, cases) != NULL);
+    fclose(cases);
+    const char *access_policy = object_in(line, "\"access_policy\": ", &policy_len), *keys = object_in(line, "\"access_keys\": ", &keys_len);
+    CHECK(fow_open(&validator, at(access_policy), policy_len, at(keys), keys_len, &fault) == FOW_OK);
+}
+
 static void row_in(const char *line, row *it)
 {
     text_in(line, "name", it->name, sizeof it->name);
@@ -95,7 +119,7 @@ static void row_in(const char *line, row *it)
 static uint32_t judge_access(const char *token, int64_t now)
 {
     fow_report report;
-    return fow_proved_judge(&validator, at(token), strlen(token), now, &report);
+    return fow_judge(&validator, at(token), strlen(token), now, &report);
 }
 
 /* Judges the proof of a row: the status, and the fault at its place. */
@@ -394,7 +418,7 @@ static void check_bound(void)
         uint32_t how = 77;
         fow_report report;
         CHECK(fow_issue(&validator, FOW_HS256, FOW_COMPACT, 0, at(""), 0, at(rows[i].claims), strlen(rows[i].claims), token, sizeof token, &written, &report) == FOW_OK);
-        CHECK(fow_proved_judge(&validator, token, written, MOMENT, &report) == FOW_OK);
+        CHECK(fow_judge(&validator, token, written, MOMENT, &report) == FOW_OK);
         CHECK(fow_bound(&validator, &how) == FOW_OK && how == rows[i].how);
         CHECK(fow_certificate_holds(&validator, der, sizeof der) == rows[i].holds);
         CHECK(fow_certificate_holds(&validator, other, sizeof other) == FOW_NOT_EXPECTED);
@@ -467,17 +491,15 @@ static void check_memory(const row *good)
     static uint8_t token[256];
     fow_report report;
     CHECK(fow_issue(&validator, FOW_HS256, FOW_COMPACT, 0, at(""), 0, at(bound), sizeof bound - 1, token, sizeof token, &written, &report) == FOW_OK);
-    CHECK(fow_proved_judge(&validator, token, written, MOMENT, &report) == FOW_OK);
+    CHECK(fow_judge(&validator, token, written, MOMENT, &report) == FOW_OK);
     refuse_each("fow_certificate_holds", holds_it, FOW_NOT_EXPECTED);
 }
 
 int main(int argc, char **argv)
 {
     static row first, timely;
-    uint32_t fault;
-    CHECK(argc == 3);
-    read_named(&keys, argv[2], "keys");
-    CHECK(fow_open(&validator, at(access_policy), sizeof access_policy - 1, keys.at, keys.len, &fault) == FOW_OK);
+    CHECK(argc == 2);
+    open_validator(argv[1]);
     strcpy(first.token, "a");
     check_nonces();
     check_none(&first);

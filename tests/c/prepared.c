@@ -52,13 +52,9 @@ static octets policy, keys, token, forged;
 static void check_verdicts(fow_validator *validator)
 {
     fow_report report;
-    CHECK(fow_proved_judge(validator, token.at, token.len, NOW, &report) == FOW_OK && report.tries == 1);
-    CHECK(fow_proved_judge(validator, forged.at, forged.len, NOW, &report) == FOW_REFUSED);
+    CHECK(fow_judge(validator, token.at, token.len, NOW, &report) == FOW_OK && report.tries == 1);
+    CHECK(fow_judge(validator, forged.at, forged.len, NOW, &report) == FOW_REFUSED);
     CHECK(report.fault == FOW_SIG_BAD_SIGNATURE && report.tries == 1);
-    fow_forget(validator);
-    if (fow_judge(validator, token.at, token.len, NOW, &report) == FOW_ASKS)
-        CHECK(fow_answer_proved(validator, token.at, token.len, report.signature, report.key) == FOW_OK);
-    CHECK(fow_judge(validator, token.at, token.len, NOW, &report) == FOW_OK);
 }
 
 /* Judges by an open validator, and by one beside it, for which no table is made. Says how many tables were asked for. */

@@ -56,19 +56,10 @@ static void *call_each(void *unused)
 {
     fow_validator validator = FOW_VALIDATOR_INIT;
     fow_report report;
-    fow_question asked;
     size_t written;
-    uint32_t fault, most;
+    uint32_t fault;
     CHECK(fow_open(&validator, policy.at, policy.len, keys.at, keys.len, &fault) == FOW_OK);
-    CHECK(fow_most_questions(&validator, &most) == FOW_OK);
-    uint32_t verdict = fow_judge(&validator, token.at, token.len, NOW, &report);
-    if (verdict == FOW_ASKS) {
-        CHECK(fow_ask(&validator, token.at, token.len, 0, 0, out, sizeof out, &asked) == FOW_OK);
-        CHECK(fow_answer_proved(&validator, token.at, token.len, 0, 0) == FOW_OK);
-        verdict = fow_judge(&validator, token.at, token.len, NOW, &report);
-    }
-    CHECK(verdict == FOW_OK);
-    CHECK(fow_proved_judge(&validator, token.at, token.len, NOW, &report) == FOW_OK);
+    CHECK(fow_judge(&validator, token.at, token.len, NOW, &report) == FOW_OK);
     CHECK(fow_payload(&validator, token.at, token.len, out, sizeof out, &written) == FOW_OK);
     CHECK(fow_accepted_payload(&validator, out, sizeof out, &written) <= FOW_ABSENT);
     fow_issue(&validator, FOW_HS256, FOW_GENERAL, 0, at("JWT"), 3, at("{}"), 2, out, sizeof out, &written, &report);
@@ -85,9 +76,7 @@ static void *judge_text(void *unused)
     uint32_t denial;
     size_t written;
     int64_t number;
-    fow_question asked;
     fow_judge(&hmac, at(text), text_len, NOW, &report);
-    fow_proved_judge(&hmac, at(text), text_len, NOW, &report);
     fow_denied(&hmac, &rule, &denial);
     fow_denied_name(&hmac, &rule, out, sizeof out, &written);
     fow_payload(&hmac, at(text), text_len, out, sizeof out, &written);
@@ -99,9 +88,6 @@ static void *judge_text(void *unused)
     fow_number(&hmac, at("x"), 1, &number);
     fow_possession_judge(&possession, &hmac, at(text), text_len, at("GET"), 3, at("https://a/b/../c"), 16, at("n"), 1, at(text), text_len, NOW, &denial);
     fow_possession_judge(&possession, &hmac, at(text), text_len, at("GET"), 3, at("https://a/b/../c"), 16, at("n"), 1, at(""), 0, NOW, &denial);
-    fow_ask(&hmac, at(text), text_len, 0, 0, out, sizeof out, &asked);
-    fow_answer(&hmac, at(text), text_len, 0, 0, true);
-    fow_forget(&hmac);
     return unused;
 }
 

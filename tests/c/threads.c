@@ -1,5 +1,5 @@
 /* threads HMAC RSA: eight threads, each with a validator of its own that another thread opened, judge at the same time. */
-#include <fowharimu_openssl.h>
+#include <fowharimu.h>
 #include <pthread.h>
 
 #include "octets.h"
@@ -15,11 +15,9 @@ typedef struct task {
 static void *judge_often(void *at)
 {
     task *mine = at;
-    fow_openssl crypto = FOW_OPENSSL_INIT;
     fow_report report;
     for (int i = 0; i < ROUNDS; i++)
-        mine->verdict |= fow_openssl_judge(&crypto, &mine->validator, mine->token->at, mine->token->len, NOW, &report);
-    fow_openssl_clear(&crypto);
+        mine->verdict |= fow_judge(&mine->validator, mine->token->at, mine->token->len, NOW, &report);
     return NULL;
 }
 

@@ -1,7 +1,7 @@
 /* tokens NAME ..: judges the token NAME.jwt by NAME.keys and NAME.policy, which has to be accepted, and the same with an octet of its
- * signature changed, which has to be refused. The token of RFC 8037, appendix A.4, whose payload is no object, has to verify and then
+ * signature changed, which has to be refused. A token by Ed448, of which there is no verifier, is refused. The token of RFC 8037, appendix A.4, whose payload is no object, has to verify and then
  * to be refused for its claims. */
-#include <fowharimu_openssl.h>
+#include <fowharimu.h>
 #include <string.h>
 
 #include "octets.h"
@@ -44,41 +44,19 @@ static void check_states(fow_validator *validator, const fow_report *report)
     CHECK(fow_try_of(validator, 1, &tried) == FOW_ABSENT);
 }
 
-/* Judges a token, where the proved verifiers answer what they can, and OpenSSL is not asked. */
-static uint32_t judge_by_proofs(fow_validator *validator, const octets *token, fow_report *report)
-{
-    fow_forget(validator);
-    while (fow_judge(validator, token->at, token->len, NOW, report) == FOW_ASKS
-        && fow_answer_proved(validator, token->at, token->len, report->signature, report->key) == FOW_OK)
-        ;
-    return report->verdict;
-}
-
-/* EdDSA with Ed448 is what the library has no proved verifier for. */
-static int is_left_to_openssl(const char *name)
+/* Of EdDSA with Ed448 the library has no verifier. */
+static int is_of_ed448(const char *name)
 {
     const char *last = strrchr(name, '/') == NULL ? name : strrchr(name, '/') + 1;
     return strcmp(last, "Ed448") == 0;
 }
 
-/* What the proved verifiers say of the token is what OpenSSL says; where there is none, the verdict stays open. */
-static void check_by_proofs(fow_validator *validator, const char *name, const octets *token, const fow_report *by_openssl)
-{
-    fow_report report;
-    uint32_t verdict = judge_by_proofs(validator, token, &report);
-    if (is_left_to_openssl(name))
-        CHECK(verdict == FOW_ASKS);
-    else
-        CHECK(verdict == by_openssl->verdict && report.fault == by_openssl->fault);
-}
-
-/* The token's key behind others that didn't make the signature: OpenSSL tries each in turn, and the last is named. */
+/* The token's key behind others that didn't make the signature: each is tried in turn, and the last is named. */
 static void check_behind_others(const char *name, octets *policy, octets *keys, const octets *token)
 {
     enum { OTHERS = 5 };
     static char set[MOST];
     fow_validator validator = FOW_VALIDATOR_INIT;
-    fow_openssl crypto = FOW_OPENSSL_INIT;
     fow_report report;
     uint32_t fault;
     const char *member = strstr((char *)keys->at, "\"n\":\"") != NULL ? "\"n\":\"" : "\"x\":\"";
@@ -89,9 +67,8 @@ static void check_behind_others(const char *name, octets *policy, octets *keys, 
     const char *key = strstr((char *)keys->at, "[{") + 1;
     len += (size_t)sprintf(set + len, ",%.*s]}", (int)(strstr(key, "}]") + 1 - key), key);
     CHECK(fow_open(&validator, policy->at, policy->len, (const uint8_t *)set, len, &fault) == FOW_OK);
-    CHECK(fow_openssl_judge(&crypto, &validator, token->at, token->len, NOW, &report) == FOW_OK);
+    CHECK(fow_judge(&validator, token->at, token->len, NOW, &report) == FOW_OK);
     CHECK(report.key == OTHERS && report.tries == OTHERS + 1);
-    fow_openssl_clear(&crypto);
     fow_close(&validator);
 }
 
@@ -99,7 +76,6 @@ static void check_token(const char *name)
 {
     static octets policy, keys, token;
     fow_validator validator = FOW_VALIDATOR_INIT;
-    fow_openssl crypto = FOW_OPENSSL_INIT;
     fow_report report;
     uint32_t fault = 0;
     read_named(&policy, name, "policy");
@@ -107,30 +83,28 @@ static void check_token(const char *name)
     read_named(&token, name, "jwt");
     CHECK(fow_open(&validator, policy.at, policy.len, keys.at, keys.len, &fault) == FOW_OK);
 
-    uint32_t verdict = fow_openssl_judge(&crypto, &validator, token.at, token.len, NOW, &report);
-    if (has_no_claims(name)) {
+    uint32_t verdict = fow_judge(&validator, token.at, token.len, NOW, &report);
+    if (is_of_ed448(name)) {
+        CHECK(verdict == FOW_REFUSED && report.fault == FOW_SIG_BAD_SIGNATURE);
+    } else if (has_no_claims(name)) {
         CHECK(verdict == FOW_REFUSED && report.fault == FOW_CLAIM_CLAIMS_SHAPE);
     } else {
         CHECK(verdict == FOW_OK && report.signature == 0 && report.key == 0 && report.fault == FOW_NO_FAULT);
         check_states(&validator, &report);
         check_claims(&validator, &token);
-        CHECK(fow_openssl_judge(&crypto, &validator, token.at, token.len, NOW + 1, &report) == FOW_REFUSED);
+        CHECK(fow_judge(&validator, token.at, token.len, NOW + 1, &report) == FOW_REFUSED);
         CHECK(report.fault == FOW_CLAIM_EXPIRED);
-        CHECK(fow_openssl_judge(&crypto, &validator, token.at, token.len, NOW, &report) == FOW_OK);
+        CHECK(fow_judge(&validator, token.at, token.len, NOW, &report) == FOW_OK);
         check_behind_others(name, &policy, &keys, &token);
     }
-    check_by_proofs(&validator, name, &token, &report);
 
     /* The first character of the signature text: another octet, whatever the algorithm. */
     size_t first = token.len;
     while (token.at[first - 1] != '.')
         first--;
     token.at[first] = token.at[first] == 'A' ? 'B' : 'A';
-    CHECK(fow_openssl_judge(&crypto, &validator, token.at, token.len, NOW, &report) == FOW_REFUSED);
+    CHECK(fow_judge(&validator, token.at, token.len, NOW, &report) == FOW_REFUSED);
     CHECK(report.fault == FOW_SIG_BAD_SIGNATURE && report.signature == 0);
-    check_by_proofs(&validator, name, &token, &report);
-
-    fow_openssl_clear(&crypto);
     fow_close(&validator);
 }
 

@@ -593,6 +593,30 @@ def ceilings() -> Iterator[Case]:
     for work in (0, 1, 100, 200, 300, 1000, 2000, 2200, 2300, 2400, 3000):
         for count in (0, 1, 9):
             yield Judging(f"ceilings/work/{work}/{count}", policy_of("HS256", work=work), key_set(*wrong[:count], good), NOW, token)
+    yield from ceilings_by_default()
+
+
+def other_moduli(count: int) -> list[str]:
+    """So many RSA keys, that of RS256 with another modulus each: nobody signs by them."""
+    n = json.loads(key_text("RS256"))["n"]
+    return [with_members(key_text("RS256"), n=f"{n[:20]}{base64url(it.to_bytes(3, 'big'))}{n[24:]}") for it in range(count)]
+
+
+def ceilings_by_default() -> Iterator[Case]:
+    """What bounds the tries where a policy names no ceiling on them: 64, where it allows an algorithm with public keys, and else nothing."""
+    many = written({"payload": base64url(CLAIMS), "signatures": [entry("RS256")] * 32})
+    keys = key_set(*other_moduli(1024))
+    for what, policy in (
+        ("none", policy_of("RS256", max_signatures=32, limit=65536)),
+        ("none-in-version-1", written({"algs": ["RS256"], "max_signatures": 32, "limit": 65536})),
+        ("65", policy_of("RS256", max_signatures=32, limit=65536, max_calls=65)),
+    ):
+        yield Judging(f"ceilings/by-default/32-signatures-1024-keys/{what}", policy, keys, NOW, many)
+    for place in (63, 64):
+        yield Judging(f"ceilings/by-default/good-key-at/{place}", policy_of("RS256"), key_set(*other_moduli(place), key_text("RS256")), NOW, compact("RS256"))
+    secrets = [json.dumps({"kty": "oct", "k": base64url(bytes([i]) * 32)}) for i in range(70)]
+    for algs in (("HS256",), ("HS256", "RS256")):
+        yield Judging(f"ceilings/by-default/70-secrets/{len(algs)}", policy_of(*algs), key_set(*secrets, key_text("HS256")), NOW, compact("HS256"))
 
 
 # ---- access rules
@@ -800,7 +824,83 @@ def issuing() -> Iterator[Case]:
     yield Issuing("issuing/typ-quoted", policy, key_set(good), 1, 1, 0, b'a"\\b\xc3\xa9', CLAIMS)
 
 
-GROUPS = [octets, parts, forms, signatures, headers, claims, policies, key_sets, ceilings, access, issuing, profiles]
+# ---- a provider that others wrote: what it issued once, and when, stands in tests/provider
+
+PROVIDER = json.loads((TOP / "tests/provider/recorded.json").read_text())
+# What a policy says of each of its tokens, beside the algorithm and the issuer; access rules.
+PROVIDED: dict[str, dict] = {
+    "access_token": {"typ": "at+jwt", "audiences": ["openid read"], "required": ["iss", "sub", "aud", "exp"]},
+    "id_token": {"typ": "JWT", "audiences": [PROVIDER["client"]], "required": ["iss", "sub", "aud", "exp", "iat", "nonce"], "max_age": 3600},
+}
+PROVIDED_RULES: dict[str, dict[str, dict]] = {
+    "access_token": {"scope-that-is-there": {"scopes": ["read"]}, "scope-that-is-not": {"scopes": ["read", "write"]}},
+    "id_token": {"for-this-client": {"only": {"aud": [PROVIDER["client"]]}}, "login-within-the-hour": {"ages": {"auth_time": 3600}}},
+}
+# For each issuer another one, and another algorithm.
+OTHERS = {"RS256": ("ES256", "PS256"), "ES256": ("PS512", "ES384"), "PS512": ("RS256", "RS512")}
+
+
+def provider() -> Iterator[Case]:
+    """Each token that the provider issued, at its moment and at others, under its own policy, keys and rule, and under others."""
+    for alg, what in ((alg, what) for alg in PROVIDER["issuers"] for what in PROVIDED):
+        at, now, one = f"provider/{alg}/{what}", PROVIDER["now"], PROVIDER["issuers"][alg]
+        policy, keys, token = policy_of(alg, **of_issuer(alg, what)), written(one["keys"]), one[what].encode()
+        dates = json.loads(octets_of(one[what].split(".")[1]))
+        for name, moment in {"as-it-is": now, "first-second": dates["iat"], "before": dates["iat"] - 1, "last-second": dates["exp"] - 1, "expired": dates["exp"]}.items():
+            yield Judging(f"{at}/{name}", policy, keys, moment, token)
+        for age in (300, 301):
+            yield Judging(f"{at}/{age}-seconds-old", policy_of(alg, **{**of_issuer(alg, what), "max_age": 300}), keys, dates["iat"] + age, token)
+        for name, other in other_policies(alg, what):
+            yield Judging(f"{at}/{name}", other, keys, now, token)
+        for name, other in other_keys(alg):
+            yield Judging(f"{at}/{name}", policy, written({"keys": other}), now, token)
+        for name, other in changed_tokens(alg, what):
+            yield Judging(f"{at}/{name}", policy, keys, now, other)
+        for name, rule in PROVIDED_RULES[what].items():
+            yield Denying(f"{at}/{name}", policy, keys, now, written(rule), token)
+
+
+def of_issuer(alg: str, what: str) -> dict:
+    """What the policy of an issuer's token says beside its algorithm."""
+    return {"issuers": [PROVIDER["issuers"][alg]["metadata"]["issuer"]], "need_kid": True, "max_signatures": 1, "max_calls": 2, **PROVIDED[what]}
+
+
+def other_policies(alg: str, what: str) -> Iterator[tuple[str, bytes]]:
+    """Policies that an issuer's token doesn't meet."""
+    stranger, algorithm = OTHERS[alg]
+    usual = of_issuer(alg, what)
+    yield "another-algorithm", policy_of(algorithm, **usual)
+    for name, changed in {
+        "another-issuer": {"issuers": of_issuer(stranger, what)["issuers"]},
+        "another-audience": {"audiences": ["other"]},
+        "another-type": {"typ": next(it["typ"] for it in PROVIDED.values() if it["typ"] != usual["typ"])},
+        "a-claim-that-is-not-there": {"required": ["acr"]},
+    }.items():
+        yield name, policy_of(alg, **{**usual, **changed})
+
+
+def other_keys(alg: str) -> Iterator[tuple[str, list]]:
+    """Keys of others, and of an issuer beside others or behind a rotation."""
+    keys = {it: one["keys"]["keys"] for it, one in PROVIDER["issuers"].items()}
+    yield "keys-of-another", keys[OTHERS[alg][0]]
+    yield "keys-of-all", sum(keys.values(), [])
+    if "next_keys" in PROVIDER["issuers"][alg]:
+        rotated = PROVIDER["issuers"][alg]["next_keys"]["keys"]
+        yield "keys-while-they-rotate", rotated + keys[alg]
+        yield "keys-behind-a-rotation", rotated
+
+
+def changed_tokens(alg: str, what: str) -> Iterator[tuple[str, bytes]]:
+    """An issuer's token in another form, and changed."""
+    header, payload, signature = PROVIDER["issuers"][alg][what].split(".")
+    flat = {"payload": payload, "protected": header, "signature": signature}
+    yield "flattened", written(flat)
+    yield "signature-spoilt", written(spoilt(flat))
+    other = next(it for it in PROVIDED if it != what)
+    yield "claims-of-the-other", f"{header}.{PROVIDER['issuers'][alg][other].split('.')[1]}.{signature}".encode()
+
+
+GROUPS = [octets, parts, forms, signatures, headers, claims, policies, key_sets, ceilings, access, issuing, profiles, provider]
 
 
 def all_cases() -> list[Case]:

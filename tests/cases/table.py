@@ -11,12 +11,11 @@ from harness import hexadecimal
 
 FOLDER = pathlib.Path(__file__).resolve().parent
 STORED = FOLDER / "answers.tsv"
-SETS = ("proved", "openssl", "none")
 FIELDS = ("verdict", "fault", "part", "signature", "key", "claim", "work", "states", "tries", "claims")
 # The faults of fowharimu.h that no call can come to, with why.
 NEVER = {
     "text.Read": "nothing is read from a stream",
-    "signature.NoVerifier": "fow_judge asks, and fow_proved_judge names each algorithm",
+    "signature.NoVerifier": "fow_judge has a verifier for each algorithm",
     "issue.AlgNotHmac": "fow_issue answers FOW_ABSENT",
     "issue.Spent": "32 signatures of 1,048,576 octets cost less than 10^8 octets, and the budget is 10^12",
 }
@@ -65,30 +64,25 @@ def read_answers(text: str) -> dict[str, str]:
     return answers
 
 
-def rows(cases: list[corpus.Case], answers: dict[str, dict[str, str]]) -> Iterator[str]:
-    """The answers as they are stored: cases one after another with the same answers are one row, or one for each set of verifiers that differs."""
-    triples = [(it.name, tuple(shortened(answers[one][it.name]) for one in SETS)) for it in cases]
-    for (_, triple), found in itertools.groupby(triples, lambda it: (group_of(it[0]), it[1])):
+def rows(cases: list[corpus.Case], answers: dict[str, str]) -> Iterator[str]:
+    """The answers as they are stored: cases one after another with the same answer are one row."""
+    pairs = [(it.name, shortened(answers[it.name])) for it in cases]
+    for (_, answer), found in itertools.groupby(pairs, lambda it: (group_of(it[0]), it[1])):
         names = [name for name, _ in found]
-        for answer in dict.fromkeys(triple):
-            sets = ",".join(one for one, said in zip(SETS, triple) if said == answer)
-            yield f"{names[0]}\t{len(names)}\t{sets}\t{answer}\n"
+        yield f"{names[0]}\t{len(names)}\t{answer}\n"
 
 
-def stored(cases: list[corpus.Case]) -> dict[str, dict[str, str]]:
-    """The stored answers of each set of verifiers, by the names of the cases. Raises ValueError where they are of other cases."""
+def stored(cases: list[corpus.Case]) -> dict[str, str]:
+    """The stored answers, by the names of the cases. Raises ValueError where they are of other cases."""
     lines = STORED.read_text().splitlines(keepends=True)
     if [it for it in lines if it.startswith("group\t")] != digests(cases):
         raise ValueError(f"{STORED.name} has the answers to other cases than are made now: look at both, then see tests/cases/README.md")
     places = {it.name: i for i, it in enumerate(cases)}
-    answers: dict[str, dict[str, str]] = {one: {} for one in SETS}
+    answers: dict[str, str] = {}
     for line in lines:
         if not line.startswith("group\t"):
-            first, count, sets, answer = line.rstrip("\n").split("\t", 3)
-            for case in cases[places[first] : places[first] + int(count)]:
-                answers_of_case = [answers[one] for one in sets.split(",")]
-                for one in answers_of_case:
-                    one[case.name] = answer
+            first, count, answer = line.rstrip("\n").split("\t", 2)
+            answers |= {it.name: answer for it in cases[places[first] : places[first] + int(count)]}
     return answers
 
 
@@ -102,8 +96,8 @@ def faults_of(answers: list[str]) -> set[str]:
     return found - {"-"}
 
 
-def json_line(case: corpus.Case, answers: dict[str, str]) -> str:
-    """A case with its answers, as JSON text: `token` where it is a text in UTF-8, and else `token64` in base64, and so for the other octets."""
+def json_line(case: corpus.Case, answer: str) -> str:
+    """A case with its answer, as JSON text: `token` where it is a text in UTF-8, and else `token64` in base64, and so for the other octets."""
     members: dict[str, object] = {}
     for name, value in case._asdict().items():
         if isinstance(value, bytes):
@@ -113,9 +107,7 @@ def json_line(case: corpus.Case, answers: dict[str, str]) -> str:
                 members[name + "64"] = base64.b64encode(value).decode()
         else:
             members[name] = value
-    first = answers["proved"]
-    members["answer"] = answer_of(first)
-    members |= {one: answer_of(answers[one]) for one in SETS[1:] if answers[one] != first}
+    members["answer"] = answer_of(answer)
     return json.dumps(members) + "\n"
 
 

@@ -1,4 +1,4 @@
-/* Calls in any order on two validators, four octets each, beside a model of what the two hold and were told. */
+/* Calls in any order on two validators, four octets each, beside a model of what the two hold. */
 #include "harness.h"
 
 enum { DOCUMENTS = 3, TOKENS = 7, BOTH = 2, HMAC_TOKEN = 5, CHANGED_TOKEN = 6, KEYS = 16, NONE = -1, TOKEN_ROOM = 4096 };
@@ -6,10 +6,7 @@ enum { DOCUMENTS = 3, TOKENS = 7, BOTH = 2, HMAC_TOKEN = 5, CHANGED_TOKEN = 6, K
 /* What a validator is known to hold. */
 typedef struct model {
     fow_validator validator;
-    fow_openssl crypto;
     bool is_open;
-    int told[TOKENS][KEYS];       /* of signature 0 and this key: 0 nothing, 1 that it is invalid, 2 that it is valid */
-    int asked_token, asked_key;   /* what the last judging asks about, or NONE */
     bool is_accepted;             /* whether the last judging accepted */
     bool remembers;               /* whether tokens are to be remembered */
     uint32_t kept[TOKENS];        /* the key, from 1, by which fow_judge accepted it since then, or 0 */
@@ -20,7 +17,6 @@ typedef struct call {
     uint8_t what, rest;
     int token;
     uint32_t signature, key;
-    bool is_valid;
     const uint8_t *octets;
     size_t len, room;
     uint8_t *out;
@@ -50,8 +46,6 @@ static void begin(void)
 
 static void forget_all(model *it)
 {
-    memset(it->told, 0, sizeof it->told);
-    it->asked_token = NONE;
     it->is_accepted = false;
 }
 
@@ -118,12 +112,11 @@ static void remember(model *it, const call *c)
         remember_none(it, tokens != 0);
 }
 
-/* Judges a token, or octets that are none where `token` is NONE. An acceptance rests on an answer that was told, and what is asked wasn't. */
+/* Judges a token, or octets that are none where `token` is NONE. None is accepted that no key signed. */
 static void judge(model *it, int token, const uint8_t *octets, size_t len)
 {
     fow_report report;
     uint32_t verdict = fow_judge(&it->validator, octets, len, NOW, &report);
-    it->asked_token = NONE;
     it->is_accepted = verdict == FOW_OK;
     if (!it->is_open) {
         CHECK(verdict == FOW_NOT_OPEN && report.verdict == FOW_NOT_OPEN && report.fault == 0 && report.tries == 0 && report.work == 0);
@@ -134,111 +127,7 @@ static void judge(model *it, int token, const uint8_t *octets, size_t len)
     check_tries(&it->validator, &report, KEYS);
     CHECK(token != NONE || verdict == FOW_REFUSED);
     check_remembered(it, token, verdict, &report);
-    if (verdict == FOW_OK && !fow_remembered(&it->validator))
-        CHECK(token != HMAC_TOKEN && report.signature == 0 && it->told[token][report.key] == 2);
-    if (verdict == FOW_ASKS) {
-        CHECK(it->told[token][report.key] == 0);
-        it->asked_token = token;
-        it->asked_key = (int)report.key;
-    }
-}
-
-static void judge_by(model *it, const call *c, bool by_openssl)
-{
-    fow_report report;
-    uint32_t verdict = by_openssl ? fow_openssl_judge(&it->crypto, &it->validator, c->octets, c->len, NOW, &report)
-                                  : fow_proved_judge(&it->validator, c->octets, c->len, NOW, &report);
-    CHECK(verdict == report.verdict && (it->is_open ? verdict == FOW_OK || verdict == FOW_REFUSED : verdict == FOW_NOT_OPEN));
-    bool rests_on_told = by_openssl && fow_remembered(&it->validator);
-    CHECK(verdict != FOW_OK || rests_on_told || (c->token != HMAC_TOKEN && c->token != CHANGED_TOKEN));
-    if (by_openssl && it->is_open)
-        check_remembered(it, c->token, verdict, &report);
-    /* (what OpenSSL told stands until it is forgotten) */
-    if (by_openssl) {
-        fow_forget(&it->validator);
-        forget_all(it);
-    }
-    it->asked_token = NONE;
-    it->is_accepted = verdict == FOW_OK;
-}
-
-static void asked_of(model *it, const call *c)
-{
-    fow_question asked;
-    uint32_t status = fow_asked(&it->validator, c->out, c->room, &asked);
-    if (!it->is_open)
-        CHECK(status == FOW_NOT_OPEN);
-    else if (it->asked_token == NONE)
-        CHECK(status == FOW_ABSENT);
-    else
-        CHECK(status == FOW_OK || (status == FOW_TOO_SHORT && c->room < TOKEN_ROOM + QUESTION_ROOM));
-    if (status == FOW_OK)
-        CHECK(asked.input + asked.signature + asked.first + asked.second <= c->room && memcmp(c->out, tokens[it->asked_token].at, asked.input) == 0);
-}
-
-static void answer_asked(model *it, const call *c)
-{
-    uint32_t status = fow_answer_asked(&it->validator, c->is_valid);
-    CHECK(status == (!it->is_open ? FOW_NOT_OPEN : it->asked_token == NONE ? FOW_ABSENT : FOW_OK));
-    /* (it may have been told by fow_answer before, and the first answer counts) */
-    if (status == FOW_OK && it->told[it->asked_token][it->asked_key] == 0)
-        it->told[it->asked_token][it->asked_key] = c->is_valid ? 2 : 1;
-    it->asked_token = NONE;
-}
-
-static void ask(model *it, const call *c)
-{
-    fow_question asked;
-    uint32_t status = fow_ask(&it->validator, c->octets, c->len, c->signature, c->key, c->out, c->room, &asked);
-    CHECK(it->is_open ? status == FOW_OK || status == FOW_ABSENT || status == FOW_TOO_SHORT : status == FOW_NOT_OPEN);
-    CHECK(c->token != HMAC_TOKEN || status == FOW_ABSENT || status == FOW_NOT_OPEN);
-    if (status == FOW_OK) {
-        CHECK(asked.input + asked.signature + asked.first + asked.second <= c->room && memcmp(c->out, c->octets, asked.input) == 0);
-        CHECK(asked.kind != FOW_OCT && asked.alg > FOW_HS512);
-    }
-}
-
-/* Notes an answer to signature 0, of which the first counts. The question of the last judging, where it is the same, stands. */
-static void note(model *it, const call *c, uint32_t status, int answer)
-{
-    CHECK(it->is_open ? status == FOW_OK || status == FOW_ABSENT : status == FOW_NOT_OPEN);
-    if (status == FOW_OK && c->signature == 0 && it->told[c->token][c->key] == 0)
-        it->told[c->token][c->key] = answer;
-}
-
-static void answer(model *it, const call *c)
-{
-    note(it, c, fow_answer(&it->validator, c->octets, c->len, c->signature, c->key, c->is_valid), c->is_valid ? 2 : 1);
-}
-
-/* An answer of a proved verifier: only a token's own key makes a signature valid, and none the changed one. */
-static void answer_by(model *it, const call *c)
-{
-    fow_report report;
-    uint32_t status = fow_answer_proved(&it->validator, c->octets, c->len, 0, c->key);
-    CHECK(it->is_open ? status == FOW_OK || status == FOW_ABSENT : status == FOW_NOT_OPEN);
-    if (status != FOW_OK || it->told[c->token][c->key] != 0)
-        return;
-    CHECK(c->token != HMAC_TOKEN);
-    /* (which of the two it said shows in the next judging of that token, where it isn't remembered, unless another key is valid too) */
-    CHECK(fow_remember(&it->validator, 0, 0) == FOW_OK);
-    remember_none(it, false);
-    uint32_t verdict = fow_judge(&it->validator, c->octets, c->len, NOW, &report);
-    it->told[c->token][c->key] = verdict == FOW_OK && report.key == c->key ? 2 : 1;
-    CHECK(c->token != CHANGED_TOKEN || it->told[c->token][c->key] == 1 || verdict != FOW_OK);
-    it->asked_token = verdict == FOW_ASKS ? c->token : NONE;
-    it->asked_key = (int)report.key;
-    it->is_accepted = verdict == FOW_OK;
-}
-
-static void forget(model *it)
-{
-    uint8_t out[TOKEN_ROOM + QUESTION_ROOM];
-    fow_question asked;
-    fow_forget(&it->validator);
-    memset(it->told, 0, sizeof it->told);
-    uint32_t status = fow_asked(&it->validator, out, sizeof out, &asked);
-    CHECK(status == (!it->is_open ? FOW_NOT_OPEN : it->asked_token == NONE ? FOW_ABSENT : FOW_OK));
+    CHECK(verdict != FOW_OK || (token != HMAC_TOKEN && token != CHANGED_TOKEN && report.signature == 0));
 }
 
 static void get_claims(model *it, const call *c)
@@ -254,14 +143,13 @@ static void get_claims(model *it, const call *c)
 static void get_others(model *it, const call *c)
 {
     size_t written;
-    uint32_t most;
+    uint32_t limit;
     fow_state state;
     fow_try tried;
     uint32_t status = fow_state_of(&it->validator, c->key, &state);
     CHECK(it->is_open ? status == FOW_OK || status == FOW_ABSENT : status == FOW_NOT_OPEN);
     status = fow_try_of(&it->validator, c->key, &tried);
     CHECK(it->is_open ? status == FOW_OK || status == FOW_ABSENT : status == FOW_NOT_OPEN);
-    CHECK(fow_most_questions(&it->validator, &most) == (it->is_open ? FOW_OK : FOW_NOT_OPEN));
     fow_payload(&it->validator, c->octets, c->len, c->out, c->room, &written);
     status = fow_accepted_payload(&it->validator, c->out, c->room, &written);
     CHECK(!it->is_open ? status == FOW_NOT_OPEN : !it->is_accepted ? status == FOW_ABSENT : status == FOW_OK || status == FOW_TOO_SHORT);
@@ -270,7 +158,7 @@ static void get_others(model *it, const call *c)
     CHECK(it->is_open ? status != FOW_NOT_OPEN : status == FOW_NOT_OPEN);
     status = fow_sole_issuer(&it->validator, c->out, c->room, &written);
     CHECK(it->is_open ? status != FOW_NOT_OPEN : status == FOW_NOT_OPEN);
-    CHECK(fow_token_limit(&it->validator, &most) == (it->is_open ? FOW_OK : FOW_NOT_OPEN));
+    CHECK(fow_token_limit(&it->validator, &limit) == (it->is_open ? FOW_OK : FOW_NOT_OPEN));
     CHECK(it->is_open || !fow_documents_are_public(&it->validator));
 }
 
@@ -284,32 +172,25 @@ static void judge_cut(model *it, const call *c)
 
 static void run(model *it, model *another, const call *c)
 {
-    switch (c->what % 19) {
+    switch (c->what % 11) {
     case 0: case 1: open_it(it, c); break;
     case 2: open_refused(it, c); break;
     case 3: open_beside(it, another); break;
     case 4: if (c->rest & 1) close_it(it); break;
     case 5: case 6: case 7: judge(it, c->token, c->octets, c->len); break;
-    case 8: asked_of(it, c); break;
-    case 9: case 10: answer_asked(it, c); break;
-    case 11: ask(it, c); break;
-    case 12: answer(it, c); break;
-    case 13: answer_by(it, c); break;
-    case 14: forget(it); break;
-    case 15: get_claims(it, c); break;
-    case 16: get_others(it, c); judge_cut(it, c); break;
-    case 17: judge_by(it, c, c->rest & 1); break;
-    case 18: remember(it, c); break;
+    case 8: get_claims(it, c); break;
+    case 9: get_others(it, c); judge_cut(it, c); break;
+    case 10: remember(it, c); break;
     }
 }
 
 static call call_of(const uint8_t *octets)
 {
-    call c = { .what = octets[0] & 127, .rest = octets[3], .token = octets[1] % TOKENS, .is_valid = octets[3] & 1 };
+    call c = { .what = octets[0] & 127, .rest = octets[3], .token = octets[1] % TOKENS };
     c.signature = octets[2] >> 6 ? 0 : octets[2] & 3;
     c.key = octets[2] % 12;
     c.len = tokens[c.token].len;
-    c.room = octets[3] & 2 ? octets[3] * 4u : TOKEN_ROOM + QUESTION_ROOM;
+    c.room = octets[3] & 2 ? octets[3] * 4u : TOKEN_ROOM;
     c.octets = area_put(&token_area, tokens[c.token].at, c.len, octets[3] & 4);
     c.out = area_end(&rooms, c.room);
     return c;
@@ -321,14 +202,11 @@ int LLVMFuzzerTestOneInput(const uint8_t *data, size_t size)
     if (documents[0] == NULL)
         begin();
     memset(both, 0, sizeof both);
-    both[0].asked_token = both[1].asked_token = NONE;
     for (size_t i = 0; i + 3 < size; i += 4) {
         call c = call_of(data + i);
         run(&both[data[i] >> 7], &both[1 - (data[i] >> 7)], &c);
     }
-    for (int i = 0; i < BOTH; i++) {
+    for (int i = 0; i < BOTH; i++)
         fow_close(&both[i].validator);
-        fow_openssl_clear(&both[i].crypto);
-    }
     return 0;
 }

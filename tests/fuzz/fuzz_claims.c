@@ -70,7 +70,6 @@ int LLVMFuzzerTestOneInput(const uint8_t *data, size_t size)
     payload_len = line == NULL ? 0 : encode(line + 1, size - header_len - 1, payload);
     size_t len = put_token(form, data, header_len, key);
     const uint8_t *octets = area_put(&tokens, token, len, at_front);
-    fow_forget(&it->validator);
     uint32_t verdict = fow_judge(&it->validator, octets, len, NOW, &first);
     check_judged(it, verdict, &first);
     CHECK(fow_judge(&it->validator, octets, len, NOW, &second) == verdict && is_same(&first, &second));

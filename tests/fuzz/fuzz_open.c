@@ -72,28 +72,18 @@ static void check_issued(fow_validator *validator)
     }
 }
 
-/* Tokens that nobody signed are refused by OpenSSL and by proof, and raise no more questions than the library says. */
+/* Tokens that nobody signed are refused. */
 static void check_unsigned(fow_validator *validator)
 {
     static const char *const tokens[] = { "eyJhbGciOiJFUzI1NiJ9.e30.AAAA", "eyJhbGciOiJSUzI1NiJ9.e30.AAAA", "eyJhbGciOiJFZERTQSJ9.e30.AAAA",
         "eyJhbGciOiJQUzUxMiJ9.e30.AAAA", "eyJhbGciOiJFUzUxMiJ9.e30.", "eyJhbGciOiJIUzI1NiIsImtpZCI6ImEifQ.e30.AAAA" };
-    fow_openssl crypto = FOW_OPENSSL_INIT;
     fow_report report;
-    uint32_t most;
-    CHECK(fow_most_questions(validator, &most) == FOW_OK && most <= MOST_SIGNATURES * MOST_KEYS);
     for (size_t i = 0; i < sizeof tokens / sizeof *tokens; i++) {
         size_t len = strlen(tokens[i]);
-        fow_forget(validator);
-        if (fow_judge(validator, at(tokens[i]), len, NOW, &report) == FOW_ASKS)
-            CHECK(report.tries <= most);
-        uint32_t verdict = fow_openssl_judge(&crypto, validator, at(tokens[i]), len, NOW, &report);
-        check_report(verdict, &report, MOST_KEYS);
-        CHECK(verdict == FOW_REFUSED);
-        verdict = fow_proved_judge(validator, at(tokens[i]), len, NOW, &report);
+        uint32_t verdict = fow_judge(validator, at(tokens[i]), len, NOW, &report);
         check_report(verdict, &report, MOST_KEYS);
         CHECK(verdict == FOW_REFUSED);
     }
-    fow_openssl_clear(&crypto);
 }
 
 int LLVMFuzzerTestOneInput(const uint8_t *data, size_t size)

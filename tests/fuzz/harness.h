@@ -4,7 +4,7 @@
 #define HARNESS_H
 #define _GNU_SOURCE
 #define OPENSSL_SUPPRESS_DEPRECATED
-#include <fowharimu_openssl.h>
+#include <fowharimu.h>
 #include <openssl/evp.h>
 #include <openssl/hmac.h>
 #include <stdio.h>
@@ -20,7 +20,7 @@
         } \
     } while (0)
 
-enum { NOW = 1300819379, ROOM = 1 << 22, PAGE = 4096, QUESTION_ROOM = 16384, MOST_SIGNATURES = 32, MOST_KEYS = 1024 };
+enum { NOW = 1300819379, ROOM = 1 << 22, PAGE = 4096, MOST_SIGNATURES = 32, MOST_KEYS = 1024 };
 
 /* Tells libFuzzer of an outcome, which leads it as a place in the code does (cover.c). */
 void cover_outcome(uint32_t outcome);
@@ -127,7 +127,6 @@ typedef struct fixed {
     const char *policy, *set;
     uint32_t keys;
     fow_validator validator;
-    fow_openssl crypto;
     char *keys_text;
     size_t keys_len;
 } fixed;
@@ -231,7 +230,7 @@ static inline void check_report(uint32_t verdict, const fow_report *report, uint
 {
     uint32_t fault = report->fault;
     CHECK(report->verdict == verdict);
-    CHECK(verdict == FOW_OK || verdict == FOW_REFUSED || verdict == FOW_ASKS);
+    CHECK(verdict == FOW_OK || verdict == FOW_REFUSED);
     CHECK(verdict == FOW_REFUSED ? is_of_token(fault) : fault == FOW_NO_FAULT);
     CHECK((fow_fault_name(fault)[0] != 0) == (fault != FOW_NO_FAULT));
     CHECK((report->part != FOW_NO_PART) == (fault == FOW_FORM_BASE64) && report->part <= FOW_PART_SIGNATURE);
@@ -263,7 +262,7 @@ static inline void check_states(fow_validator *validator, const fow_report *repo
     CHECK(report->verdict != FOW_OK || verified != 0);
 }
 
-/* The tries of a judging are in order, no pair twice, and cost what its report says; after a question that has no work. */
+/* The tries of a judging are in order, no pair twice, and cost what its report says. */
 static inline void check_tries(fow_validator *validator, const fow_report *report, uint32_t keys)
 {
     fow_try tried = { 0 };
@@ -275,7 +274,7 @@ static inline void check_tries(fow_validator *validator, const fow_report *repor
         last = place;
         work += tried.cost;
     }
-    CHECK(report->work == (report->verdict == FOW_ASKS ? 0 : work));
+    CHECK(report->work == work);
     CHECK(fow_try_of(validator, report->tries, &tried) == FOW_ABSENT && fow_try_of(validator, UINT64_MAX, &tried) == FOW_ABSENT);
 }
 
@@ -317,14 +316,11 @@ static inline size_t put_tag(uint32_t key, int which, const char *input, size_t 
     return encode(tag, tag_len, to);
 }
 
-/* The tag that OpenSSL makes of an accepted token with the secret that its report names stands in the token, by one of the three digests. What
- * is asked about such a pair is never written. */
+/* The tag that OpenSSL makes of an accepted token with the secret that its report names stands in the token, by one of the three digests. */
 static inline void check_hmac(fixed *it, const uint8_t *token, size_t len, const fow_report *report)
 {
     static char input[ROOM], tag[128];
     static uint8_t plain[ROOM];
-    uint8_t out[8];
-    fow_question asked;
     size_t n = put_input(&it->validator, token, len, report->signature, input), plain_len = unescape(token, len, plain);
     int is_found = 0;
     for (int which = 0; which < 3; which++) {
@@ -332,7 +328,6 @@ static inline void check_hmac(fixed *it, const uint8_t *token, size_t len, const
         is_found |= memmem(plain, plain_len, tag, tag_len) != NULL;
     }
     CHECK(is_found && report->work != 0);
-    CHECK(fow_ask(&it->validator, token, len, report->signature, report->key, out, sizeof out, &asked) == FOW_ABSENT);
 }
 
 /* No token that differs in one bit from an accepted one in compact form is accepted. */
@@ -347,7 +342,7 @@ static inline void check_mutants(fixed *it, const uint8_t *token, size_t len)
         memcpy(copy, token, len);
         seed = seed * 1664525u + 1013904223u;
         copy[(seed >> 8) % len] ^= (uint8_t)(1 << (seed >> 4 & 7));
-        CHECK(fow_openssl_judge(&it->crypto, &it->validator, copy, len, NOW, &report) != FOW_OK);
+        CHECK(fow_judge(&it->validator, copy, len, NOW, &report) != FOW_OK);
     }
     free(copy);
 }

@@ -1,6 +1,6 @@
 """Writes what the harnesses begin with, and the words of their dictionary: seeds.py OUT.
 
-OUT/NAME has the seeds of the harness NAME, OUT/jose.dict the words. They are always the same.
+OUT/NAME has the seeds of the harness NAME, OUT/jose.dict the words, OUT/proofs the tokens and proofs of the harness holders. They are always the same.
 """
 import hashlib
 import hmac
@@ -17,6 +17,8 @@ from harness import base64url
 SIZES = (64, 48, 200)
 SECRETS = [bytes((number * 41 + i * 7 + 1) % 256 for i in range(size)) for number, size in enumerate(SIZES)]
 DIGESTS = {"HS256": hashlib.sha256, "HS384": hashlib.sha384, "HS512": hashlib.sha512}
+# The moment of most proofs of tests/possession.
+MOMENT = 1_700_000_000
 # How many validators harness.h keeps open, and those for the tokens of some names.
 FIXED = 10
 VALIDATORS = {"RS256": 4, "ES256": 5, "Ed25519": 6, "PS256": 7}
@@ -140,14 +142,51 @@ def calls_seeds() -> list[bytes]:
     return [bytes(chosen.randrange(256) for _ in range(4 * chosen.randrange(2, 60))) for _ in range(200)]
 
 
+def proof_lines() -> list[str]:
+    """The tokens and proofs that the harness `holders` has: those that are held at its moment, and some others."""
+    first, *rows = map(json.loads, (TOP / "tests/possession/cases.jsonl").read_text().splitlines())
+    chosen = [it for it in rows if it["now"] == MOMENT and it["token"] and it["nonce"] is None and (it["answer"] == "held" or it["name"].startswith(("by-", "another-")))][:64]
+    return [
+        json.dumps(first["access_policy"]) + "\t" + json.dumps(first["policy"]),
+        json.dumps(first["access_keys"]),
+        *("\t".join(it[name] for name in ("method", "uri", "token", "proof")) for it in chosen),
+    ]
+
+
+def holders_seeds() -> list[bytes]:
+    """Four octets for each call: a validator, a policy for proofs and a memory, then a token, its proof, both taken; and calls in any order."""
+    begun = [[0, 0, 0, 0], [3, 0, 0, 0], [8, 3, 0, 0]]
+    good = [begun + [[1, row, 0, 0], [4, row, 0, 0], [7, 0, 0, 0], [10, 7, 1, 60], [9, 0, 0, 0], [11, row, 9, 0], [12, row, 1, 0], [13, 0, 0, 0]] for row in range(16)]
+    chosen = random.Random(7)
+    mixed = [begun + [[chosen.randrange(256) for _ in range(4)] for _ in range(40)] for _ in range(100)]
+    return [bytes(sum(it, [])) for it in good + mixed]
+
+
+def around_seeds() -> list[bytes]:
+    """An octet that names a call, one of numbers, and three texts with line feeds between them."""
+    token = base64url(SECRETS[0])
+    texts = {
+        0: [f"{scheme}{token}" for scheme in ("Bearer ", "DPoP ", "bearer  ", "dpop\t", "Basic ", "Bearer")],
+        1: [""],
+        2: ["api\nread write\nES256 EdDSA", 'a"b\n\n', "\n\u00e9\n"],
+        3: ["a secret of more than 32 octets, for nonces\n12345"],
+        4: ["https://a.example:8443/x/y?z", "https://[::1]/keys", "http://h/", "https://user@h/", "https://h:65536/#x"],
+        5: [f"https://a.example/x\n{it}" for it in ("/new", "new", "//a.example/y?z", "https://A.EXAMPLE:443/y", "http://a.example/", "../x", "")],
+        6: ['https://a.example/r\n{"issuer":"https://a.example/r","jwks_uri":"https://a.example/keys"}', 'https://a?b\n{"issuer":7}', "x\n[]"],
+    }
+    return [bytes([what, number]) + it.encode() for what, found in texts.items() for it in found for number in (0, 1, 3, 21, 0x55, 0xFF)]
+
+
 def main() -> None:
     out = pathlib.Path(sys.argv[1])
     made = {"judge": judge_seeds, "claims": claims_seeds, "open": open_seeds, "issue": issue_seeds, "calls": calls_seeds, "access": access_seeds}
+    made |= {"holders": holders_seeds, "around": around_seeds}
     for name, seeds in made.items():
         (out / name).mkdir(parents=True, exist_ok=True)
         for number, seed in enumerate(seeds()):
             (out / name / str(number)).write_bytes(seed)
     lines = [line for word in WORDS.split() for line in (f'"\\x22{word}\\x22"', f'"{word}"')]
+    (out / "proofs").write_text("".join(f"{it}\n" for it in proof_lines()))
     (out / "jose.dict").write_text("".join(f"{it}\n" for it in [*lines, *(f'"{it}"' for it in SPELLED)]))
 
 

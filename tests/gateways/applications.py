@@ -4,6 +4,7 @@ CGI (RFC 3875, section 4.1.18) and WSGI read a header's name in capitals with `_
 by itself; PHP's own server and gunicorn are real ones, where they are installed.
 """
 import contextlib
+import http.client
 import http.server
 import json
 import pathlib
@@ -47,13 +48,33 @@ KINDS = [
 
 
 class Folding(http.server.BaseHTTPRequestHandler):
-    """Answers by the headers as CGI has them, those of one name joined by commas."""
+    """Answers by the headers as CGI has them, those of one name joined by commas.
+
+    What stands behind the last chunk is a header too, as to PHP's own server; and it takes each other protocol that is offered, as servers take h2c.
+    """
 
     protocol_version = "HTTP/1.1"
 
+    def fields(self) -> list[tuple[str, str]]:
+        """The headers, and the trailers of a body in chunks behind them."""
+        found = list(self.headers.items())
+        if "chunked" not in self.headers.get("Transfer-Encoding", "").lower():
+            self.rfile.read(int(self.headers.get("Content-Length") or 0))
+            return found
+        while size := int(self.rfile.readline().partition(b";")[0], 16):
+            self.rfile.read(size + 2)
+        return found + list(http.client.parse_headers(self.rfile).items())
+
     def do_GET(self) -> None:
         found: dict[str, str] = {}
-        for name, value in self.headers.items():
+        if "Upgrade" in self.headers:
+            self.send_response(101)
+            self.send_header("Connection", "Upgrade")
+            self.send_header("Upgrade", self.headers["Upgrade"])
+            self.end_headers()
+            self.close_connection = True
+            return
+        for name, value in self.fields():
             folded = "HTTP_" + name.upper().replace("-", "_").replace(".", "_")
             found[folded] = f"{found[folded]},{value}" if folded in found else value
         body = hostile.MARK + b"\n" + json.dumps(found).encode()
@@ -61,6 +82,9 @@ class Folding(http.server.BaseHTTPRequestHandler):
         self.send_header("Content-Length", str(len(body)))
         self.end_headers()
         self.wfile.write(body)
+
+    # (a server in Go hands CONNECT to its handler, as any other method)
+    do_POST = do_CONNECT = do_GET
 
     def log_message(self, *_: object) -> None:
         pass
@@ -158,6 +182,9 @@ SPELLED = [
     Spelled("Connection: close, X-User", True, b"Connection: close, X-User, X-Scope, X-Jwt-Payload\r\n"),
     Spelled("Connection: x-user, and X_User", False, b"Connection: keep-alive, x-user, x-scope\r\nX_User: admin\r\nX_Scope: admin\r\n"),
     Spelled("Connection: Authorization", False, b"Connection: Authorization\r\n"),
+    # (behind 101 the application would hear the client alone)
+    Spelled("Upgrade: h2c", False, b"Connection: Upgrade, HTTP2-Settings\r\nUpgrade: h2c\r\nHTTP2-Settings: AAMAAABkAARAAAAAAAIAAAAA\r\n"),
+    Spelled("Upgrade: websocket, h2c", False, b"Connection: Upgrade\r\nUpgrade: websocket, h2c\r\n"),
     Spelled("a space behind the name", False, b"X-User : admin\r\n"),
     Spelled("a line that goes on", False, b"X-Other: a\r\n X-User: admin\r\n"),
 ]

@@ -5,7 +5,7 @@ const { createInterface } = require('node:readline');
 const { provider, begin, finish } = require(path.join(process.argv[2], 'login.js'));
 
 const said = ({ name, message, fault, claim }) =>
-  message.startsWith('the token endpoint answers 400') ? 'HTTP 400' : [name, fault, claim].filter((it) => it !== undefined).join(' ');
+  message.startsWith('the token endpoint answers ') ? `HTTP ${message.split(' ').pop()}` : [name, fault, claim].filter((it) => it !== undefined).join(' ');
 
 async function main() {
   const known = await provider(), session = {};

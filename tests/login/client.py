@@ -17,4 +17,4 @@ for line in sys.stdin:
     try:
         print(login.begin(session) if word == "begin" else f"in {login.finish(session, rest)['sub']}", flush=True)
     except Exception as error:
-        print("HTTP 400" if isinstance(error, urllib.error.HTTPError) else said(error), flush=True)
+        print(f"HTTP {error.code}" if isinstance(error, urllib.error.HTTPError) else said(error), flush=True)

@@ -15,9 +15,11 @@ from signing import HMAC_K, key_text, sign
 NOW = 1_700_000_000
 ALGS = ["ES256", "ES384", "ES512", "RS256", "PS256", "EdDSA"]
 POLICY = {"algs": ALGS, "typ": "dpop+jwt", "required": ["jti", "htm", "htu", "iat"], "max_age": 60, "leeway": 5}
-# By these an access token of a row is accepted, as far as it is a token.
-ACCESS_POLICY = {"algs": ["HS256"]}
-ACCESS_KEYS = {"keys": [{"kty": "oct", "k": HMAC_K}]}
+# What a provider that others wrote issued once, and the proofs that it took, by the key of ES256.
+RECORDED = json.loads((pathlib.Path(__file__).resolve().parent.parent / "provider/recorded.json").read_text())
+# By these an access token of a row is accepted, as far as it is a token: ours, which names no audience, and the provider's, whose audience is its scopes.
+ACCESS_POLICY = {"algs": ["HS256", *RECORDED["issuers"]], "audiences": ["openid read"]}
+ACCESS_KEYS = {"keys": [{"kty": "oct", "k": HMAC_K}, *(key for it in RECORDED["issuers"].values() for key in it["keys"]["keys"])]}
 URI = "https://api.example/things"
 # The proofs of RFC 9449, figures 2 and 12; that of figure 4 is the first. The access token is the one of figure 12.
 FIGURE_2 = (
@@ -347,6 +349,28 @@ def for_another() -> list[Row]:
         beside("bound-to-a-certificate", "OtherKey", compact({"cnf": {"x5t#S256": thumbprint("ES256")}})),
         beside("key-itself-in-confirmation", "OtherKey", compact({"cnf": {"jwk": json.loads(key_text("ES256"))}})),
     ]
+    return rows
+
+
+def of_a_provider() -> list[Row]:
+    """Access tokens that a provider bound to the key of ES256, with the proofs that it took itself, and with others."""
+    rows, now = [], RECORDED["now"]
+    for alg, one in RECORDED["issuers"].items():
+        issuer, token = one["metadata"]["issuer"], one["access_token"]
+        place, claims = f"{issuer}/userinfo", octets_of(token.split(".")[1]).decode()
+        another = next(it["access_token"] for it in RECORDED["issuers"].values() if it is not one)
+        other_claims = octets_of(another.split(".")[1]).decode()
+        by_another_key = made("EdDSA", claims={"htu": place, "iat": now}, token=token)
+        rows += [
+            Row(f"provider-{alg}-at-token", "held", one["proof_at_token"], "POST", f"{issuer}/token", token=None, now=now),
+            Row(f"provider-{alg}", "held", one["proof_with_token"], "GET", place, token=token, claims=claims, now=now),
+            Row(f"provider-{alg}-another-method", "OtherMethod", one["proof_with_token"], "POST", place, token=token, claims=claims, now=now),
+            Row(f"provider-{alg}-another-uri", "OtherUri", one["proof_with_token"], "GET", f"{issuer}/token", token=token, claims=claims, now=now),
+            Row(f"provider-{alg}-another-token", "OtherAccessToken", one["proof_with_token"], "GET", place, token=another, claims=other_claims, now=now),
+            Row(f"provider-{alg}-proof-of-no-token", "OtherAccessToken", one["proof_at_token"], "POST", f"{issuer}/token", token=token, claims=claims, now=now),
+            Row(f"provider-{alg}-another-key", "OtherKey", by_another_key, "GET", place, token=token, claims=claims, now=now),
+            Row(f"provider-{alg}-too-old", "TooOld", one["proof_with_token"], "GET", place, token=token, claims=claims, now=now + 66),
+        ]
     return rows
 
 

@@ -64,7 +64,7 @@ def rust(room):
 
 
 def c(room):
-    sources = [TOP / "bindings/c/several.c", TOP / "bindings/openssl/fowharimu_openssl.c", BUILD / "libfowharimu.a"]
+    sources = [TOP / "bindings/c/several.c", BUILD / "libfowharimu.a"]
     warnings = ["-std=c11", "-Wall", "-Wextra", "-Werror", "-pedantic", "-g", "-O1", "-fsanitize=address,undefined", "-fno-sanitize-recover=all"]
     command = [os.environ.get("CC", "cc"), *warnings, f"-I{TOP}/include", "-o", room / "several", *sources, "-lcrypto"]
     subprocess.run([str(it) for it in command], check=True)
@@ -74,9 +74,9 @@ def c(room):
 # With the command and the file of make that each needs.
 CALLERS = {
     "python": (python, "python3", "libfowharimu.so.0"),
-    "go": (go, "go", "libfowharimu_openssl.so.0"),
+    "go": (go, "go", "libfowharimu.so.0"),
     "node": (node, "node", "node/fowharimu.node"),
     "java": (java, "javac", "java/libfowharimu_jni.so"),
-    "rust": (rust, "cargo", "libfowharimu_openssl.a"),
+    "rust": (rust, "cargo", "libfowharimu.a"),
     "c": (c, os.environ.get("CC", "cc"), "libfowharimu.a"),
 }

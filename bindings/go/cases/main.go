@@ -1,4 +1,4 @@
-// Command cases answers each case of a table that tests/cases/make wrote, over OpenSSL: cases [-threads N] [-remember] FILE.
+// Command cases answers each case of a table that tests/cases/make wrote: cases [-threads N] [-remember] FILE.
 // tests/cases/README.md says what a line is. With -threads so many goroutines judge each token on one validator, and all have to answer
 // alike. With -remember tokens are remembered, and each is judged at several moments first.
 package main
@@ -12,7 +12,6 @@ import (
 	"fmt"
 	"io"
 	"log"
-	"math"
 	"os"
 	"strconv"
 	"strings"
@@ -65,7 +64,7 @@ func open(policy, keys []byte) (*fowharimu.Validator, error) {
 	if *remembers {
 		tokens = 100
 	}
-	return fowharimu.Open(policy, keys, fowharimu.MostQuestions(math.MaxInt), fowharimu.Remember(tokens, 1<<20))
+	return fowharimu.Open(policy, keys, fowharimu.Remember(tokens, 1<<20))
 }
 
 // again judges a token at its moment, at others, and at its moment again: an accepted one in compact form is remembered then.
@@ -171,7 +170,7 @@ func denied(validator *fowharimu.Validator, token string, now time.Time, access 
 // checkPair ends the program where a refusal names another signature or key than its report.
 func checkPair(answer said, report fowharimu.Report) {
 	kind, _, _ := strings.Cut(answer.fault, ".")
-	namesKey := answer.verdict == "asks" || kind == "ceiling"
+	namesKey := kind == "ceiling"
 	if namesKey && answer.key != report.Key {
 		log.Fatal("the refusal and the report name other keys")
 	}
@@ -211,7 +210,6 @@ func refusedFor(err error) said {
 	var ceiling *fowharimu.CeilingError
 	var signature *fowharimu.SignatureError
 	var claims *fowharimu.ClaimsError
-	var undecided *fowharimu.UndecidedError
 	var issue *fowharimu.IssueError
 	switch {
 	case errors.As(err, &policy):
@@ -230,8 +228,6 @@ func refusedFor(err error) said {
 		answer.fault, answer.signature = "signature."+signature.Fault, signature.Signature
 	case errors.As(err, &claims):
 		answer.fault, answer.claim = "claims."+claims.Fault, claims.Claim
-	case errors.As(err, &undecided):
-		answer.verdict, answer.signature, answer.key = "asks", undecided.Signature, undecided.Key
 	case errors.As(err, &issue):
 		answer.fault, answer.claim, answer.signature = kindOf(issue)+issue.Fault, issue.Claim, issue.Signature
 	default:

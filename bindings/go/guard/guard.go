@@ -209,7 +209,6 @@ func (g *guard) shown(r *http.Request) *http.Request {
 // outcomeOf says what is known of a token that isn't taken, and which scopes its request needs.
 func outcomeOf(err error) (fowharimu.Outcome, string) {
 	var denied *fowharimu.DeniedError
-	var undecided *fowharimu.UndecidedError
 	var tooOld *fowharimu.TooOldError
 	var notHeld *fowharimu.NotHeldError
 	var notTaken *fowharimu.NotTakenError
@@ -221,8 +220,6 @@ func outcomeOf(err error) (fowharimu.Outcome, string) {
 		return fowharimu.ScopeMissing, strings.Join(denied.Scopes, " ")
 	case errors.As(err, &denied):
 		return fowharimu.NotGranted, ""
-	case errors.As(err, &undecided):
-		return fowharimu.Unanswered, ""
 	case errors.Is(err, ErrForm):
 		return fowharimu.Malformed, ""
 	case errors.Is(err, ErrProof):

@@ -128,14 +128,6 @@ static jlong JNICALL open_beside(JNIEnv *env, jclass class, jlong another)
     return 0;
 }
 
-static jint JNICALL most_questions(JNIEnv *env, jclass class, jlong it)
-{
-    (void)env;
-    (void)class;
-    uint32_t most = 0;
-    return fow_most_questions(&at(it)->validator, &most) == FOW_OK ? (jint)most : INT32_MAX;
-}
-
 static jint JNICALL remember(JNIEnv *env, jclass class, jlong it, jint tokens, jint octets)
 {
     (void)env;
@@ -166,7 +158,7 @@ static jint JNICALL judge(JNIEnv *env, jclass class, jlong v, jbyteArray token, 
     fow_report report = { 0 };
     if (!keep_token(env, it, token))
         return FOW_OUT_OF_MEMORY;
-    uint32_t verdict = fow_proved_judge(&it->validator, it->token, it->len, now, &report);
+    uint32_t verdict = fow_judge(&it->validator, it->token, it->len, now, &report);
     put_report(env, out, &report);
     return (jint)verdict;
 }
@@ -595,7 +587,6 @@ JNIEXPORT jint JNICALL JNI_OnLoad(JavaVM *vm, void *reserved)
         ROW("version", "()Ljava/lang/String;", version),
         ROW("open", "([B[B[I)J", open_validator),
         ROW("openBeside", "(J)J", open_beside),
-        ROW("mostQuestions", "(J)I", most_questions),
         ROW("remember", "(JII)I", remember),
         ROW("remembered", "(J)Z", remembered),
         ROW("close", "(J)V", close_validator),

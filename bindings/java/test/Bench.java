@@ -42,7 +42,7 @@ final class Bench {
         Fetching plain = new Fetching();
         Fetching how = new Fetching(
                 plain.refreshAfter(), plain.cooldown(), plain.maxAge(), Duration.ofSeconds(5), true, Optional.empty(), plain.listener());
-        try (RemoteKeys keys = new RemoteKeys(read(rsa, "policy"), words[2], how, Validator.MOST_QUESTIONS, REMEMBER)) {
+        try (RemoteKeys keys = new RemoteKeys(read(rsa, "policy"), words[2], how, REMEMBER)) {
             measure("RS256 claims, remembered, keys by URL", 200, validating(keys, rsa));
         }
         String value = "Bearer " + new String(read(rsa, "jwt"), StandardCharsets.US_ASCII);
@@ -67,7 +67,7 @@ final class Bench {
     }
 
     private static Validator open(String name, Remember remember) throws Exception {
-        return new Validator(read(name, "policy"), read(name, "keys"), Validator.MOST_QUESTIONS, remember);
+        return new Validator(read(name, "policy"), read(name, "keys"), remember);
     }
 
     private static byte[] read(String name, String end) throws IOException {

@@ -67,7 +67,7 @@ final class Cases {
         }
         validator = null;
         try {
-            validator = new Validator(octets(words[1]), octets(words[2]), Integer.MAX_VALUE, REMEMBER);
+            validator = new Validator(octets(words[1]), octets(words[2]), REMEMBER);
         } catch (Refused e) {
             refused = e;
         }

@@ -16,7 +16,7 @@ final class Rates {
         Remember remember = words.length == 5 ? new Remember(100, 4096) : new Remember();
         byte[] policy = Files.readAllBytes(Path.of(name + ".policy")), keys = Files.readAllBytes(Path.of(name + ".keys"));
         byte[] token = Files.readAllBytes(Path.of(name + ".jwt"));
-        try (Validator validator = new Validator(policy, keys, Validator.MOST_QUESTIONS, remember)) {
+        try (Validator validator = new Validator(policy, keys, remember)) {
             Bursts.print(threads, nanoseconds(words[1]), nanoseconds(words[3]), () -> validator.validate(token, NOW));
         }
     }

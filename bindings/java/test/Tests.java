@@ -78,7 +78,7 @@ final class Tests {
     private void all() throws Exception {
         for (Test it : new Test[] {
             this::eachToken, this::ed448, this::clock, this::verdict, this::remembering, this::seats, this::refusals, this::surrogates, this::documents,
-            this::questions, this::mistakes, this::closing, this::issuing, this::freeing, this::threads, this::closingMeanwhile, this::ruleMet, this::denials,
+            this::mistakes, this::closing, this::issuing, this::freeing, this::threads, this::closingMeanwhile, this::ruleMet, this::denials,
             this::denialIsNoRefusal, this::rulesRefused, this::rulesOfTheDocuments, this::ruleMistakes, this::ruleClosing, this::ruleFreeing,
             this::ruleThreads, this::ruleClosingMeanwhile, this::terms, this::issuers, this::urls, this::times,
             this::longestTimes, this::clients, this::once, this::whyNotTaken, this::memories, this::onceByThreads,
@@ -99,7 +99,7 @@ final class Tests {
     }
 
     private Validator logins(Remember remember) throws Exception {
-        return new Validator(ofLogins("policy.json"), ofLogins("keys.json"), Validator.MOST_QUESTIONS, remember);
+        return new Validator(ofLogins("policy.json"), ofLogins("keys.json"), remember);
     }
 
     /** An accepted token that isn't the one that was expected, for this reason. */
@@ -437,7 +437,7 @@ final class Tests {
         int length = token(hmac).length();
         for (Remember remember : List.of(new Remember(10, 4096), new Remember(1, length), new Remember(10, length - 1), new Remember())) {
             boolean is = remember.tokens() > 0 && remember.octets() >= length;
-            try (Validator it = new Validator(policy, keys, Validator.MOST_QUESTIONS, remember)) {
+            try (Validator it = new Validator(policy, keys, remember)) {
                 Verdict first = it.judge(token(hmac), NOW);
                 check(first.accepted() && !first.remembered(), "the first time");
                 Verdict again = it.judge(token(hmac), NOW);
@@ -454,7 +454,7 @@ final class Tests {
         }
         thrown(IllegalArgumentException.class, () -> new Remember(-1, 1));
         thrown(IllegalArgumentException.class, () -> new Remember(1, -1));
-        thrown(NullPointerException.class, () -> new Validator(policy, keys, 64, null));
+        thrown(NullPointerException.class, () -> new Validator(policy, keys, (Remember) null));
     }
 
     private void verdict() throws Exception {
@@ -469,7 +469,7 @@ final class Tests {
     /** A thread comes back to the seat that it had last, which remembers its tokens, as long as no other thread has its place. */
     private void seats() throws Exception {
         String token = token(hmac);
-        try (Validator it = new Validator(read(hmac, "policy"), read(hmac, "keys"), Validator.MOST_QUESTIONS, new Remember(10, 4096))) {
+        try (Validator it = new Validator(read(hmac, "policy"), read(hmac, "keys"), new Remember(10, 4096))) {
             equal(it.judge(token, NOW).remembered(), false);
             AtomicReference<List<Boolean>> other = new AtomicReference<>();
             Runnable twice = () -> other.set(List.of(it.judge(token, NOW).remembered(), it.judge(token, NOW).remembered()));
@@ -532,15 +532,6 @@ final class Tests {
         equal(refused(() -> new Validator(octets("{\"algs\":[]}"), keys)).fault(), "NoAlgorithm");
         Refused set = refused(() -> new Validator(octets(HS256), octets("{}")));
         equal(List.of(set.kind(), set.fault()), List.of(Refused.Kind.KEYS, "NotKeySet"));
-    }
-
-    private void questions() throws Exception {
-        String keys = new String(read(top.resolve("tests/tokens/RS256"), "keys"), StandardCharsets.UTF_8);
-        String key = keys.substring(keys.indexOf('[') + 1, keys.lastIndexOf(']'));
-        byte[] many = octets("{\"keys\":[" + key + "," + key + "," + key + "]}");
-        byte[] policy = octets("{\"algs\":[\"RS256\"],\"max_signatures\":32}");
-        equal(refused(() -> new Validator(policy, many)).kind(), Refused.Kind.QUESTIONS);
-        new Validator(policy, many, 96).close();
     }
 
     private void mistakes() throws Exception {

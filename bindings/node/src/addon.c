@@ -355,17 +355,6 @@ static napi_value open_validator(napi_env env, napi_callback_info info)
     return status == FOW_REFUSED ? number(env, fault) : lack_memory(env);
 }
 
-/* mostQuestions(validator): how many questions one token can raise. */
-static napi_value most_questions(napi_env env, napi_callback_info info)
-{
-    napi_value given[1];
-    uint32_t most = 0;
-    held *it = arguments(env, info, 1, given);
-    if (it == NULL || fow_most_questions(&it->validator, &most) != FOW_OK)
-        return NULL;
-    return number(env, most);
-}
-
 /* remember(validator, tokens, octets): remembers so many tokens of so many octets from now on. */
 static napi_value remember(napi_env env, napi_callback_info info)
 {
@@ -403,7 +392,7 @@ static napi_value judge(napi_env env, napi_callback_info info)
         return mistake(env, "a moment is wanted");
     if (!keep_token(env, it, given[1]))
         return NULL;
-    uint32_t verdict = fow_proved_judge(&it->validator, it->token, it->len, now, &report);
+    uint32_t verdict = fow_judge(&it->validator, it->token, it->len, now, &report);
     put_report(out, &report);
     return number(env, verdict);
 }
@@ -1038,7 +1027,7 @@ static void put(napi_env env, napi_value exports, const named_call *it)
 NAPI_MODULE_INIT()
 {
     static const named_call all[] = {
-        { "open", open_validator }, { "mostQuestions", most_questions }, { "judge", judge }, { "payload", payload }, { "header", header },
+        { "open", open_validator }, { "judge", judge }, { "payload", payload }, { "header", header },
         { "issue", issue }, { "state", state }, { "tried", tried }, { "refusedClaim", refused_claim }, { "refusedMember", refused_member },
         { "faultName", fault_name }, { "close", close_validator }, { "openAccess", open_access }, { "refusedInAccess", refused_in_access },
         { "remember", remember }, { "remembered", remembered }, { "scope", scope }, { "denied", denied }, { "deniedName", denied_name }, { "closeAccess", close_access },

@@ -195,7 +195,7 @@ async function testOptions() {
   const { RemoteKeys } = require('../remote.js'), policy = { algs: ['RS256'] }, keys = { keys: [] };
   const validator = validatorOf(HMAC), token = tokenOf(HMAC), access = new fow.Access({}), remember = { tokens: 1, octets: 4096 };
   const calls = [
-    [(how) => new fow.Validator(policy, keys, how), { mostQuestions: 8, remember }],
+    [(how) => new fow.Validator(policy, keys, how), { remember }],
     [(how) => new fow.Validator(policy, keys, { remember: how }), remember],
     [(how) => validator.validate(token, how), { access, now: NOW }],
     [(how) => validator.issue({}, how), { alg: 'HS256', form: 'compact', key: 0, typ: 'at+jwt' }],
@@ -214,7 +214,6 @@ async function testOptions() {
   for (const how of [...wrong, { ca: '' }, { ca: [] }, { ca: null }]) {
     for (const open of [RemoteKeys.open, RemoteKeys.discover]) await assert.rejects(open(policy, url, how), TypeError);
   }
-  assert.throws(() => new fow.Validator(policy, keys, { mostQuestions: '64' }), TypeError);
 }
 
 /** The library is the one that the environment names, and none that a prototype does. */
@@ -560,13 +559,6 @@ function verdictOf(validator, token, how) {
   }
 }
 
-function testQuestions() {
-  const many = { keys: Array(3).fill(JSON.parse(read(RSA, 'keys')).keys[0]) }, policy = { algs: ['RS256'], max_signatures: 32 };
-  assert.throws(() => new fow.Validator(policy, many), { name: 'TooManyQuestions', most: 96, allowed: 64 });
-  assert.throws(() => new fow.Validator(policy, many, { mostQuestions: NaN }), { name: 'TooManyQuestions' });
-  assert.ok(new fow.Validator(policy, many, { mostQuestions: 96 }).judge(tokenOf(RSA), NOW).accepted);
-}
-
 function testMistakes() {
   const validator = validatorOf(HMAC), token = tokenOf(HMAC);
   for (const it of [undefined, null, 7, new Uint16Array(2), new ArrayBuffer(2)]) {
@@ -867,7 +859,6 @@ if (!isMainThread) {
   test('half hashes that a call expects', testHalfHashes);
   test('nothing is expected by mistake', testExpectedByMistake);
   test('memories that are not closed are freed', testFreeingMemories);
-  test('too many questions', testQuestions);
   test('mistakes are told', testMistakes);
   test('a closed validator refuses', testClosing);
   test('what is issued is accepted', testIssuing);

@@ -7,17 +7,14 @@
 #include <fowharimu.h>
 #include <stdlib.h>
 
-typedef uint32_t judge_over_openssl(void *, fow_validator *, const uint8_t *, size_t, int64_t, fow_report *);
-typedef uint32_t judge_alone(fow_validator *, const uint8_t *, size_t, int64_t, fow_report *);
+typedef uint32_t judge(fow_validator *, const uint8_t *, size_t, int64_t, fow_report *);
 typedef uint32_t accepted_payload(fow_validator *, uint8_t *, size_t, size_t *);
 
 /* What calls are made of: the functions, and the addresses of what a seat holds, which outlives it. */
 typedef struct calls {
     PyObject_HEAD
-    judge_over_openssl *over_openssl; /* or NULL */
-    judge_alone *alone;
+    judge *judge;
     accepted_payload *payload;
-    void *crypto;
     fow_validator *validator;
     fow_report *report;
     Py_ssize_t held; /* the longest token for which the interpreter's lock is kept */
@@ -26,26 +23,23 @@ typedef struct calls {
 static int init(PyObject *self, PyObject *words, PyObject *named)
 {
     calls *it = (calls *)self;
-    unsigned long long at[6];
+    unsigned long long at[4];
     if (named != NULL) {
         PyErr_SetString(PyExc_TypeError, "Calls takes no names");
         return -1;
     }
-    if (!PyArg_ParseTuple(words, "KKKKKKn", &at[0], &at[1], &at[2], &at[3], &at[4], &at[5], &it->held))
+    if (!PyArg_ParseTuple(words, "KKKKn", &at[0], &at[1], &at[2], &at[3], &it->held))
         return -1;
-    it->over_openssl = (judge_over_openssl *)(uintptr_t)at[0];
-    it->alone = (judge_alone *)(uintptr_t)at[1];
-    it->payload = (accepted_payload *)(uintptr_t)at[2];
-    it->crypto = (void *)(uintptr_t)at[3];
-    it->validator = (fow_validator *)(uintptr_t)at[4];
-    it->report = (fow_report *)(uintptr_t)at[5];
+    it->judge = (judge *)(uintptr_t)at[0];
+    it->payload = (accepted_payload *)(uintptr_t)at[1];
+    it->validator = (fow_validator *)(uintptr_t)at[2];
+    it->report = (fow_report *)(uintptr_t)at[3];
     return 0;
 }
 
 static uint32_t validate_into(calls *it, const uint8_t *token, size_t len, int64_t now, uint8_t *out, size_t *written)
 {
-    uint32_t verdict = it->over_openssl != NULL ? it->over_openssl(it->crypto, it->validator, token, len, now, it->report)
-                                                : it->alone(it->validator, token, len, now, it->report);
+    uint32_t verdict = it->judge(it->validator, token, len, now, it->report);
     return verdict != FOW_OK ? verdict : it->payload(it->validator, out, len + 1, written);
 }
 
@@ -55,7 +49,7 @@ static PyObject *result_of(uint32_t status, uint32_t verdict, const uint8_t *out
     if (status == FOW_OK)
         return PyUnicode_DecodeUTF8((const char *)out, (Py_ssize_t)written, NULL);
     /* (an accepted token has a payload: where there is none, nothing is known) */
-    if (verdict != FOW_REFUSED && verdict != FOW_ASKS)
+    if (verdict != FOW_REFUSED)
         return PyErr_NoMemory();
     Py_INCREF(Py_None);
     return Py_None;
@@ -73,7 +67,7 @@ static PyObject *validate(PyObject *self, PyObject *words)
     uint32_t status;
     if (!PyArg_ParseTuple(words, "y#L", &token, &len, &now))
         return NULL;
-    if (it->alone == NULL) {
+    if (it->judge == NULL) {
         PyErr_SetString(PyExc_TypeError, "Calls that were never made");
         return NULL;
     }

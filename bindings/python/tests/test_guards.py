@@ -3,11 +3,14 @@
 from __future__ import annotations
 
 import asyncio
+import base64
+import threading
 import unittest
 from typing import Any, Dict, List, Optional
 
-from fowharimu import Denied, DPoP, Proofs, SignatureRefused, TokenRefused, Undecided
+from fowharimu import Denied, DPoP, Once, Proofs, SignatureRefused, TokenRefused, Validator
 from fowharimu import asgi, wsgi
+from fowharimu.issuers import Issuers
 from fowharimu.remote import KeysTooOld
 
 CLAIMS = {"sub": "ann"}
@@ -68,6 +71,56 @@ class Asgi(unittest.TestCase):
         self.assertEqual(body["body"], b"")
 
 
+class Store:
+    """A store that takes everything."""
+
+    def take(self, mark: bytes, until: int) -> bool:
+        return True
+
+
+class Noting(Validator):
+    """Accepts whatever it is asked, and notes the thread that asks."""
+
+    def __init__(self, **options: Any) -> None:
+        super().__init__({"algs": ["HS256"], "issuers": ["me"]}, {"keys": []}, **options)
+        self.threads: List[threading.Thread] = []
+
+    def validate(self, *_: Any, **__: Any) -> Dict[str, Any]:
+        self.threads.append(threading.current_thread())
+        return CLAIMS
+
+
+class Waits(unittest.TestCase):
+    """Which calls are made in the event loop: those that wait for nothing of the application's own."""
+
+    def test_a_store_is_asked_in_a_thread(self) -> None:
+        proof = [(b"authorization", b"DPoP good"), (b"dpop", b"x")]
+        for once, proofs, headers, stays in (
+            (None, 1, GOOD, True),
+            (1, 1, GOOD, True),
+            (Once(1), Once(1), proof, True),
+            (Store(), 1, GOOD, False),
+            (Store(), 1, proof, False),
+            (None, Store(), GOOD, True),
+            (None, Store(), proof, False),
+        ):
+            noting = Noting(once=once)
+            dpop = DPoP(Proofs(PROOFS, proofs), "https://api.example")  # type: ignore[arg-type]
+            with self.subTest(once=once, proofs=proofs, headers=headers):
+                (shown,) = asked(asgi.Guard(behind, noting, dpop=dpop), "http", headers)
+                self.assertEqual(shown["state"]["claims"], CLAIMS)
+                self.assertEqual([it is threading.main_thread() for it in noting.threads], [stays])
+
+    def test_nor_is_one_among_several_issuers_asked_in_the_loop(self) -> None:
+        me = base64.urlsafe_b64encode(b'{"iss":"me"}').rstrip(b"=")
+        token = b"eyJhbGciOiJIUzI1NiJ9." + me + b"." + b"A" * 43
+        for once, stays in ((1, True), (Store(), False)):
+            noting = Noting(once=once)
+            with self.subTest(once=once):
+                asked(asgi.Guard(behind, Issuers({"me": noting})), "http", [(b"authorization", b"Bearer " + token)])
+                self.assertEqual([it is threading.main_thread() for it in noting.threads], [stays])
+
+
 class Wsgi(unittest.TestCase):
     def through(self, error: BaseException) -> List[Any]:
         """What a guard answers to a token for which its validator raises an error."""
@@ -77,9 +130,8 @@ class Wsgi(unittest.TestCase):
         return told
 
     def test_what_says_nothing_of_a_token_is_the_server_s(self) -> None:
-        for error in (MemoryError(), Undecided("Undecided", 0, 0)):
-            with self.subTest(error), self.assertRaises(type(error)):
-                self.through(error)
+        with self.assertRaises(MemoryError):
+            self.through(MemoryError())
 
     def test_refusals_and_denials(self) -> None:
         self.assertEqual(self.through(SignatureRefused("BadSignature", 0)), [("401 Unauthorized", 'Bearer error="invalid_token"')])

@@ -69,7 +69,8 @@ class Waiting(unittest.TestCase):
         self.addCleanup(server.shutdown)
         self.addCleanup(Slow.over.set)
         policy = {**POLICY, "issuers": ["joe"]}
-        self.keys = RemoteKeys(policy, f"http://127.0.0.1:{server.server_port}/keys", allow_http=True, cooldown=1.5, timeout=1)
+        self.url = f"http://127.0.0.1:{server.server_port}/keys"
+        self.keys = RemoteKeys(policy, self.url, allow_http=True, cooldown=1.5, timeout=5)
         self.addCleanup(self.keys.close)
 
     def test_few_tokens_wait_for_a_fetch_and_no_thread_does(self) -> None:
@@ -127,6 +128,30 @@ class Waiting(unittest.TestCase):
                 time.sleep(0.02)
         self.assertEqual(asked, [None])
         self.assertIn("told in vain", told.getvalue())
+
+    def test_a_store_is_asked_in_a_thread(self) -> None:
+        threads = []
+
+        class Store:
+            def take(self, mark: bytes, until: int) -> bool:
+                return True
+
+        class Noting(RemoteKeys):
+            def validate(self, *_: Any, **__: Any) -> Any:
+                threads.append(threading.current_thread())
+                return {}
+
+            _validate_at_once = validate
+
+        async def let_through(*_: Any) -> None:
+            pass
+
+        for once, stays in ((1, True), (Store(), False)):
+            Slow.begun = threading.Event()
+            with self.subTest(once=once), Noting(POLICY, self.url, allow_http=True, once=once) as keys:
+                scope = {"type": "http", "headers": [(b"authorization", b"Bearer a.b.c")]}
+                asyncio.run(asgi.Guard(let_through, keys)(scope, let_through, let_through))  # type: ignore[arg-type]
+                self.assertIs(threads.pop() is threading.main_thread(), stays)
 
     async def asked(self, guard: asgi.Guard, first: List[str], last: str, status: int = 401) -> List[str]:
         """Tokens in the order in which they are answered, none of them in a thread of asyncio's."""

@@ -14,13 +14,7 @@ fn main() {
         (Err(_), Some(folder)) => search_in(&folder.to_string_lossy()),
         (Err(_), None) => search_by_pkg_config(),
     }
-    if env::var_os("CARGO_FEATURE_OPENSSL").is_some() {
-        println!("cargo:rustc-link-lib=static=fowharimu_openssl");
-        println!("cargo:rustc-link-lib=static=fowharimu");
-        println!("cargo:rustc-link-lib=crypto");
-    } else {
-        println!("cargo:rustc-link-lib=static=fowharimu");
-    }
+    println!("cargo:rustc-link-lib=static=fowharimu");
 }
 
 /// The folder of the libraries that this package has. On another system or processor than theirs the build ends.
@@ -45,9 +39,7 @@ fn shipped() -> Option<PathBuf> {
 /// Has the libraries of a folder linked, and linked anew where they have changed.
 fn search_in(folder: &str) {
     println!("cargo:rustc-link-search=native={folder}");
-    for name in ["fowharimu", "fowharimu_openssl"] {
-        println!("cargo:rerun-if-changed={folder}/lib{name}.a");
-    }
+    println!("cargo:rerun-if-changed={folder}/libfowharimu.a");
 }
 
 fn search_by_pkg_config() {

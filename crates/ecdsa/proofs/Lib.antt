@@ -39,3 +39,6 @@ pub mod Tables521
 pub mod CurveConstants
 pub mod SignatureVerdicts
 pub mod OctetVerdicts
+-- ---- prepared keys: the functions of prepared
+
+pub mod Lent

@@ -8,6 +8,8 @@ pub mod Curve
 pub mod Curves
 -- ECDSA signatures as octets
 pub mod Ecdsa
+-- the keys that are prepared
+pub mod Held
 -- the primes of P-256 and P-521
 pub mod Primes
 -- congruence modulo m, and what has an inverse

@@ -13,10 +13,10 @@
 //! Preparing a key allocates, and nothing else here.
 #![tactic(auto)]
 
+pub use held::PreparedKeys;
 pub use keys::{is_p256_key, is_p384_key, is_p521_key};
 pub use prepared::{
-    PreparedKeys, prepare_p256, prepare_p384, prepare_p521, verifies_p256_by, verifies_p384_by,
-    verifies_p521_by,
+    prepare_p256, prepare_p384, prepare_p521, verifies_p256_by, verifies_p384_by, verifies_p521_by,
 };
 pub use verifying::{verifies_p256, verifies_p384, verifies_p521};
 
@@ -26,6 +26,7 @@ mod curve;
 mod euclid;
 mod field;
 mod formulas;
+mod held;
 mod keys;
 pub mod laws;
 mod limbs;

@@ -1,18 +1,20 @@
 //! Keys that are prepared once, to verify many signatures.
 
-ghost use Rattle.std.specs.Prelude.{◌≡◌, ◌*◌, ◌^◌, ◌≤◌, true, length, IfSome, IfOk};
+ghost use Rattle.std.specs.Prelude.{◌≡◌, ◌*◌, ◌^◌, ◌≤◌, ◌&&◌, ◌++◌, not, true, length, map, option_map, is_some, IfSome, IfOk, IfErr};
 ghost use Rattle.std.specs.Int.Digits.{number_from_digits};
 ghost use Rattle.ecdsa.specs.Curve.{Point.Affine};
 ghost use Rattle.ecdsa.specs.Curves.{P256, P384, P521, curve_over};
 ghost use Rattle.ecdsa.specs.Domains.{domain};
 ghost use Rattle.ecdsa.specs.Doubles.{IsTable};
-ghost use Rattle.ecdsa.specs.Ecdsa.{ecdsa};
+ghost use Rattle.ecdsa.specs.Ecdsa.{ecdsa, is_public_key};
+ghost use Rattle.ecdsa.specs.Held.{held, held_key, has_coordinates, is_held, with_key};
 ghost use Rattle.ecdsa.specs.Field.{size};
 ghost use Rattle.ecdsa.specs.Windows.{AreBelow, AreWindows};
 
 use crate::asserted::{Asserted, verifies};
 use crate::constants::{p256, p384, p521};
 use crate::curve::Curve;
+use crate::held::{PreparedBase, PreparedKey, PreparedKeys};
 use crate::laws::{p256_table, p384_table, p521_table};
 use crate::octets::from_octets;
 use crate::p256_doubles::{P256_X, P256_Y};
@@ -22,44 +24,6 @@ use crate::signatures::{Tables, affine, is_key};
 use crate::tables::Doubles;
 use crate::windows::{Windows, make_windows};
 use std::alloc::{AllocError, Global};
-
-/// The windows of the base point of the curve over so many limbs.
-#[derive(Drop)]
-struct PreparedBase<const N: usize> {
-    windows: Windows<N>,
-    ghost below: { AreBelow (curve_over N) windows.xs.items windows.ys.items },
-    ghost are: { ∥ AreWindows N (curve_over N) (Affine (curve_over N).gx (curve_over N).gy) windows.xs.items windows.ys.items ∥₁ },
-}
-
-/// A key of the curve over so many limbs: the octets of its coordinates, and its windows.
-#[derive(Drop)]
-struct PreparedKey<const N: usize> {
-    x: Vec<u8>,
-    y: Vec<u8>,
-    windows: Windows<N>,
-    ghost below: { AreBelow (curve_over N) windows.xs.items windows.ys.items },
-    ghost are: { ∥ AreWindows N (curve_over N) (Affine (number_from_digits 256 x.items) (number_from_digits 256 y.items)) windows.xs.items windows.ys.items ∥₁ },
-}
-
-/// Prepared keys of one curve: of P-256 over 4 limbs of 64 bits, of P-384 over 6, of P-521 over 9. Beside the first key stand the
-/// windows of the base point, once for all.
-///
-/// A key takes 64 KiB on P-256, 144 KiB on P-384 and 295 KiB on P-521, and the base point as much.
-#[derive(Drop)]
-pub struct PreparedKeys<const N: usize> {
-    base: Option<PreparedBase<N>>,
-    keys: Vec<PreparedKey<N>>,
-}
-
-impl<const N: usize> PreparedKeys<N> {
-    /// None yet. It takes no memory.
-    pub fn new(alloc: Global) -> PreparedKeys<N> {
-        PreparedKeys {
-            base: None,
-            keys: Vec::new(alloc),
-        }
-    }
-}
 
 /// The octets, copied.
 fn copied(alloc: Global, octets: &[u8]) -> Result<Vec<u8>, AllocError>
@@ -86,7 +50,8 @@ fn prepare_base<const N: usize, const KIND: usize>(
     Ok(Some(PreparedBase { windows }))
 }
 
-/// The key (x, y) with its windows; None where it is no key, or where one of them isn't finite.
+/// The key (x, y) with its windows; None where it is no key.
+#[tactic(auto, unfolding(crate::specs::Ecdsa::is_public_key))]
 fn prepare_key<const N: usize, const KIND: usize>(
     alloc: Global,
     curve: &Curve<N, KIND>,
@@ -96,6 +61,9 @@ fn prepare_key<const N: usize, const KIND: usize>(
 ) -> Result<Option<PreparedKey<N>>, AllocError>
     requires known { domain curve.now ≡ curve_over N }
     requires octets { octets ≤ 8 * N }
+    ensures made { IfOk result (λ made. is_some made ≡ is_public_key (domain curve.now) octets x.now y.now) }
+    ensures x { IfOk result (λ made. IfSome made (λ key. key.x.items ≡ x.now)) }
+    ensures y { IfOk result (λ made. IfSome made (λ key. key.y.items ≡ y.now)) }
 {
     if x.len() != octets {
         return Ok(None);
@@ -112,9 +80,7 @@ fn prepare_key<const N: usize, const KIND: usize>(
     let x_form = f.form(key_x);
     let y_form = f.form(key_y);
     let key = affine(f, x_form, y_form);
-    let Some(windows) = make_windows(alloc, curve, key)? else {
-        return Ok(None);
-    };
+    let windows = make_windows(alloc, curve, key)?;
     let x_copy = copied(alloc, x)?;
     let y_copy = copied(alloc, y)?;
     Ok(Some(PreparedKey {
@@ -126,10 +92,23 @@ fn prepare_key<const N: usize, const KIND: usize>(
 
 /// Whether a prepared key has these coordinates, octet by octet to their ends.
 fn is_of<const N: usize>(key: &PreparedKey<N>, x: &[u8], y: &[u8]) -> bool
+    ensures value { result ≡ has_coordinates x.now y.now (held_key key.now) }
     ensures x { result ≡ true → key.now.x.items ≡ x.now }
     ensures y { result ≡ true → key.now.y.items ≡ y.now }
 {
     key.x.as_slice() == x && key.y.as_slice() == y
+}
+
+/// Whether the key with these coordinates is prepared.
+fn is_held<const N: usize>(keys: &[PreparedKey<N>], x: &[u8], y: &[u8]) -> bool
+    ensures { result ≡ is_held x.now y.now (map held_key keys.now) }
+{
+    'keys: for key in keys {
+        if is_of(key, x, y) {
+            return true;
+        }
+    }
+    false
 }
 
 /// The windows of the key with these coordinates, if it is prepared.
@@ -145,10 +124,20 @@ fn windows_of<'a, const N: usize, const KIND: usize>(
 {
     'keys: for key in keys {
         if is_of(key, x, y) {
-            return Some(&key.windows);
+            return windows_in(key);
         }
     }
     None
+}
+
+/// The windows of a key, if they were made.
+fn windows_in<const N: usize>(key: &PreparedKey<N>) -> Option<&Windows<N>>
+    ensures { option_map (λ t. t.now) result ≡ key.now.windows }
+{
+    match &key.windows {
+        Some(windows) => Some(windows),
+        None => None,
+    }
 }
 
 /// The windows of the base point, if they were made.
@@ -183,8 +172,11 @@ fn prepare<const N: usize, const KIND: usize>(
 ) -> Result<bool, AllocError>
     requires known { domain curve.now ≡ curve_over N }
     requires octets { octets ≤ 8 * N }
+    ensures added { IfOk result (λ added. added ≡ (is_public_key (domain curve.now) octets at.entry.x.now at.entry.y.now && not (is_held at.entry.x.now at.entry.y.now (held keys.old)))) }
+    ensures kept { IfOk result (λ added. held keys.new ≡ held keys.old ++ with_key added at.entry.x.now at.entry.y.now) }
+    ensures same { IfErr result (λ _. held keys.new ≡ held keys.old) }
 {
-    if windows_of(curve, keys.keys.as_slice(), at.x, at.y).is_some() {
+    if is_held(keys.keys.as_slice(), at.x, at.y) {
         return Ok(false);
     }
     let Some(key) = prepare_key(alloc, curve, octets, at.x, at.y)? else {
@@ -225,7 +217,11 @@ pub fn prepare_p256(
     keys: &mut PreparedKeys<4>,
     x: &[u8],
     y: &[u8],
-) -> Result<bool, AllocError> {
+) -> Result<bool, AllocError>
+    ensures added { IfOk result (λ added. added ≡ (is_public_key P256 32 x.now y.now && not (is_held x.now y.now (held keys.old)))) }
+    ensures kept { IfOk result (λ added. held keys.new ≡ held keys.old ++ with_key added x.now y.now) }
+    ensures same { IfErr result (λ _. held keys.new ≡ held keys.old) }
+{
     prepare(alloc, &p256(), keys, 32, Coordinates { x, y })
 }
 
@@ -263,7 +259,11 @@ pub fn prepare_p384(
     keys: &mut PreparedKeys<6>,
     x: &[u8],
     y: &[u8],
-) -> Result<bool, AllocError> {
+) -> Result<bool, AllocError>
+    ensures added { IfOk result (λ added. added ≡ (is_public_key P384 48 x.now y.now && not (is_held x.now y.now (held keys.old)))) }
+    ensures kept { IfOk result (λ added. held keys.new ≡ held keys.old ++ with_key added x.now y.now) }
+    ensures same { IfErr result (λ _. held keys.new ≡ held keys.old) }
+{
     prepare(alloc, &p384(), keys, 48, Coordinates { x, y })
 }
 
@@ -301,7 +301,11 @@ pub fn prepare_p521(
     keys: &mut PreparedKeys<9>,
     x: &[u8],
     y: &[u8],
-) -> Result<bool, AllocError> {
+) -> Result<bool, AllocError>
+    ensures added { IfOk result (λ added. added ≡ (is_public_key P521 66 x.now y.now && not (is_held x.now y.now (held keys.old)))) }
+    ensures kept { IfOk result (λ added. held keys.new ≡ held keys.old ++ with_key added x.now y.now) }
+    ensures same { IfErr result (λ _. held keys.new ≡ held keys.old) }
+{
     prepare(alloc, &p521(), keys, 66, Coordinates { x, y })
 }
 

@@ -5,7 +5,7 @@
 //!
 //! let policy = Policy::read(alloc, b"{\"algs\":[\"HS256\"],\"audiences\":[\"api\"],\"required\":[\"aud\",\"exp\"]}")?;
 //! let keys = KeySet::read(alloc, document)?;
-//! let validator = Validator { policy, keys, verifiers: Vec::new(alloc) };
+//! let validator = Validator::new(policy, keys, Vec::new(alloc));
 //! let report = validator.validate(alloc, &mut Reader::new(stream), now, &mut validator.policy.budget());
 //! ```
 //!

@@ -12,9 +12,8 @@ ghost use Rattle.fowharimu.specs.Remembering.{built_in, terms_of_documents};
 use jwt_built_in::{BuiltIn, PREPARED_KEYS};
 use jwt_keys::KeySet;
 use jwt_mac::{Budget, Verifier};
-use jwt_memory::{Memory, Outcome};
+use jwt_memory::{Memory, Outcome, untried};
 use jwt_policy::Policy;
-use jwt_told::untried;
 use jwt_verify::Terms;
 use std::alloc::{AllocError, Global};
 use std::marker::Model;
@@ -26,11 +25,14 @@ use std::num::NonZeroUsize;
 /// [`BuiltIn::prepared`] for what that costs, and [`Remembering::prepare`] for another number). A token that comes again is found by its octets, all of which are
 /// compared, and only its claims are looked at anew: the verdict and the report are those of
 /// [`Validator::judge`](crate::Validator::judge). The policy and the keys can't change while the memory lasts: new keys begin a new one.
+/// The policy is taken as it is: for a ceiling of 64 tries where it names none, as a [`Validator`](crate::Validator) has it, hand in
+/// [`with_ceiling`](jwt_policy::Policy::with_ceiling).
 ///
 /// Accepted tokens, their claims and their payloads lie in the memory until they go, and aren't wiped. A kept token of 179 octets takes some 950, one
 /// of 1,300 octets with 26 claims some 4,200; none takes more than some thirteen times its octets.
 ///
 /// ```rust
+/// let policy = Policy::read(alloc, document)?.with_ceiling();
 /// let tokens = NonZeroUsize::new(1000).ok_or(NoRoom)?;
 /// let mut remembering = Remembering::new(alloc, &policy, &keys, tokens, 4096)?;
 /// let outcome = remembering.judge(alloc, octets, now, &mut policy.budget());

@@ -1,6 +1,7 @@
 //! A policy, keys and verifiers, kept for many tokens.
 
 ghost use Rattle.std.specs.Prelude.{◌≡◌, ◌≢◌, ◌≤◌, ◌+◌, ℕ, List, Some, true, false, map, length, drop, IfSome};
+ghost use Rattle.jwt_policy.specs.Ceilings.{with_ceiling};
 ghost use Rattle.jwt_text.specs.Intake.{TakesAtMost};
 ghost use Rattle.jwt_verify.specs.Reports.{IsReport, IsJudged, IsCounted, IsCharged, Failed, terms};
 ghost use Rattle.jwt_verify.specs.declared.report.InputFault.TheVariants.{Read};
@@ -19,7 +20,7 @@ use std::alloc::Global;
 /// ```rust
 /// let mut verifiers: Vec<Box<dyn Verifier>> = Vec::new(alloc);
 /// verifiers.push(Box::new(alloc, BuiltIn::prepared(alloc, &keys, PREPARED_KEYS))?)?;
-/// let validator = Validator { policy, keys, verifiers };
+/// let validator = Validator::new(policy, keys, verifiers);
 /// let report = validator.validate(alloc, &mut source, now, &mut validator.policy.budget());
 /// ```
 ///
@@ -27,15 +28,30 @@ use std::alloc::Global;
 /// a caller has their meanings as `map (λ v. meaning (v.vtable, v.value)) validator.now.verifiers.items`.
 #[derive(Drop)]
 pub struct Validator {
-    /// What it asks of tokens.
+    /// What it asks of tokens. A policy that names no `max_calls` and allows an algorithm with public keys has a ceiling of 64 tries
+    /// ([`Policy::with_ceiling`]).
     pub policy: Policy,
     /// The keys of their issuer.
     pub keys: KeySet,
     /// Verifiers of signatures by public keys; the first that names an algorithm decides. None is needed for HMAC.
     pub verifiers: Vec<Box<dyn Verifier>>,
+    ghost ceiling: { with_ceiling policy ≡ policy },
 }
 
 impl Validator {
+    /// A validator of these. The policy has a ceiling on tries from now on, also where it names none: see [`Policy::with_ceiling`].
+    pub fn new(policy: Policy, keys: KeySet, verifiers: Vec<Box<dyn Verifier>>) -> Validator
+        ensures policy { result.policy ≡ with_ceiling policy }
+        ensures keys { result.keys ≡ keys }
+        ensures verifiers { result.verifiers ≡ verifiers }
+    {
+        Validator {
+            policy: policy.with_ceiling(),
+            keys,
+            verifiers,
+        }
+    }
+
     /// The verdict on octets in hand, with what became of each signature and each try that was paid: as [`judge`] says it of this
     /// policy, these keys and these verifiers.
     ///
@@ -70,6 +86,7 @@ impl Validator {
             policy,
             keys,
             verifiers,
+            ..
         } = self;
         let verifiers = verifiers.as_slice();
         judge(alloc, octets, keys, policy, now, verifiers, budget)
@@ -133,6 +150,7 @@ impl Validator {
             policy,
             keys,
             verifiers,
+            ..
         } = self;
         let verifiers = verifiers.as_slice();
         validate(alloc, source, keys, policy, now, verifiers, budget)

@@ -2,3 +2,5 @@
 
 -- what the built-in verifier means
 pub mod Meanings
+-- the keys that the built-in verifier has prepared
+pub mod Held

@@ -1,19 +1,18 @@
 //! The functions that C calls.
 
-ghost use Rattle.jwt_handles.specs.declared.status.TheConstants.{FOW_ABSENT, FOW_ASKS, FOW_NOT_OPEN, FOW_OK, FOW_OUT_OF_MEMORY, FOW_REFUSED};
+ghost use Rattle.jwt_handles.specs.declared.status.TheConstants.{FOW_ABSENT, FOW_NOT_OPEN, FOW_OK, FOW_OUT_OF_MEMORY, FOW_REFUSED};
 ghost use Rattle.std.specs.Prelude.{◌≡◌, ◌≢◌, ◌≤◌, IfSome, None, slice_get, IsUtf8, false};
 ghost use Rattle.jwt_keys.specs.KeySets.{key_set};
 ghost use Rattle.jwt_policy.specs.Document.{policy_of};
 ghost use Rattle.jwt_verify.specs.Verdict.{token_of};
 ghost use Rattle.jwt_handles.specs.Documents.{documents};
-ghost use Rattle.jwt_handles.specs.Reports.{IsBeside, IsOpened, IsRefused, IsAlike, IsAskedBy, IsJudgedBy, report_numbers};
+ghost use Rattle.jwt_handles.specs.Reports.{IsBeside, IsOpened, IsRefused, IsAlike, report_numbers};
 ghost use Rattle.jwt_handles.specs.Evidence.{states_kept, tries_kept, claims_kept, payload_kept, IsMomentBy};
 ghost use Rattle.jwt_handles.specs.Faults.{bare};
-ghost use Rattle.jwt_handles.specs.Keeping.{RemembersProved, RemembersTold};
+ghost use Rattle.jwt_handles.specs.Keeping.{RemembersProved};
 ghost use Rattle.jwt_handles.specs.Payloads.{KeepsPayloadBy};
 ghost use Rattle.jwt_handles.specs.Remembering.{Remembers};
 ghost use Rattle.jwt_handles.specs.Written.{PutsHeld, PutsPayload, PutsName, IsState, IsTry, PutsSome, PutsNumber, claim_text_at, header_octets_at, number_at, refused_member};
-ghost use Rattle.jwt_handles.specs.MostQuestions.{most_questions};
 ghost use Rattle.jwt_handles.specs.Proving.{IsProvedBy};
 ghost use Rattle.jwt_handles.specs.Issuing.{hmac_at, form_at, typ_of, PutsIssued};
 ghost use Rattle.jwt_issue.specs.ClaimSets.{claim_set_of};
@@ -80,17 +79,6 @@ pub extern "C" fn fow_open_beside(
     opening::open_beside(validator, alloc, another)
 }
 
-/// [`opening::most_questions`] by its name in C.
-#[unsafe(no_mangle)]
-pub extern "C" fn fow_most_questions(validator: &mut Handle, alloc: Global, most: &mut u32) -> u32
-    ensures same { validator.new.state ≡ validator.old.state }
-    ensures none { validator.old.state ≡ None → result ≡ FOW_NOT_OPEN }
-    ensures most { IfSome validator.old.state (λ d. (result ≡ FOW_OK)
-        × (most.new ≡ most_questions (documents d).policy (key_set (documents d).keys).keys)) }
-{
-    opening::most_questions(validator, alloc, most)
-}
-
 /// [`opening::refused_member`] by its name in C.
 #[unsafe(no_mangle)]
 pub extern "C" fn fow_refused_member(
@@ -129,43 +117,8 @@ pub extern "C" fn fow_judge(
 
     // What is accepted or refused is judged by validate's contract, and what is kept of it is its report.
     ensures judged { IfSome validator.old.state (λ d. result ≤ FOW_REFUSED
-        → IsJudgedBy d now token.now report.new validator.new.state) }
-
-    // So is the moment, against which an access rule holds dates.
-    ensures moment { IfSome validator.old.state (λ d. IsMomentBy (documents d).policy now validator.new.state) }
-
-    // Claims are kept of an acceptance alone, and so are the octets of the payload, which are those of the token.
-    ensures claims { IfSome validator.new.state (λ e. result ≢ FOW_OK → claims_kept e.last ≡ None) }
-    ensures payload { IfSome validator.old.state (λ d. KeepsPayloadBy (documents d).policy token.now result validator.new.state) }
-
-    // It remembers nothing new but this token, where it is accepted: by the answers now, on which what it comes to later rests.
-    ensures remembers { IfSome validator.old.state (λ d. RemembersTold d token.now report.new validator.new.state) }
-
-    // The pair that is asked about is the first of the tries that has no answer. The tries are kept.
-    ensures asks { IfSome validator.old.state (λ d. result ≡ FOW_ASKS
-        → IsAskedBy d now token.now report.new validator.new.state) }
-{
-    verdicts::judge(validator, alloc, token, now, report)
-}
-
-/// [`verdicts::proved_judge`] by its name in C.
-#[unsafe(no_mangle)]
-pub extern "C" fn fow_proved_judge(
-    validator: &mut Handle,
-    alloc: Global,
-    token: &[u8],
-    now: i64,
-    report: &mut FowReport,
-) -> u32
-    ensures verdict { result ≡ report.new.verdict }
-    ensures none { validator.old.state ≡ None → report_numbers report.new ≡ bare FOW_NOT_OPEN }
-    ensures open { validator.old.state ≢ None → result ≤ FOW_OUT_OF_MEMORY }
-    ensures alike { IsAlike validator.old.state validator.new.state }
-
-    // What is accepted or refused is judged by validate's contract, and what is kept of it is its report.
-    ensures judged { IfSome validator.old.state (λ d. result ≤ FOW_REFUSED
         → IsProvedBy d now token.now report.new validator.new.state) }
-    ensures never_asks { result ≢ FOW_ASKS }
+    ensures unused { result ≢ 2 }
 
     // So is the moment, against which an access rule holds dates.
     ensures moment { IfSome validator.old.state (λ d. IsMomentBy (documents d).policy now validator.new.state) }
@@ -177,7 +130,7 @@ pub extern "C" fn fow_proved_judge(
     // It remembers nothing new but this token, where it is accepted.
     ensures remembers { IfSome validator.old.state (λ d. RemembersProved d token.now report.new validator.new.state) }
 {
-    verdicts::proved_judge(validator, alloc, token, now, report)
+    verdicts::judge(validator, alloc, token, now, report)
 }
 
 /// [`verdicts::state_of`] by its name in C.

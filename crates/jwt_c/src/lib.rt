@@ -4,7 +4,6 @@
 //! exports its own functions alone.
 #![tactic(auto)]
 
-pub mod answer_exports;
 pub mod expect_exports;
 pub mod exports;
 pub mod issuer_exports;

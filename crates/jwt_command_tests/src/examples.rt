@@ -6,9 +6,6 @@ pub(crate) const MOMENT: &str = "1300819379";
 /// The words of `verify` at that moment.
 pub(crate) const VERIFY: &[&str] = &["jwt", "verify", "--now", MOMENT];
 
-/// The same in JSON.
-pub(crate) const VERIFY_JSON: &[&str] = &["jwt", "verify", "--json", "--now", MOMENT];
-
 /// What `mac` prints of the token of RFC 7515, appendix A.1, and its key.
 pub(crate) const LINE_A: &str =
     "mac 7418dfb49799e0254ffa607dd8adbbba16d4254d69d6bff05b58055853848d79 equal";

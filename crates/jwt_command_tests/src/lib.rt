@@ -19,10 +19,6 @@ mod lines;
 #[cfg(test)]
 mod mac;
 #[cfg(test)]
-mod policy;
-#[cfg(test)]
-mod pretty;
-#[cfg(test)]
 mod reasons;
 #[cfg(test)]
 mod runs;

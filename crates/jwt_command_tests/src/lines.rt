@@ -11,7 +11,7 @@ use jwt_text::{Reader, Sink, Source, Writer};
 use std::alloc::Global;
 use std::test::Fail;
 
-/// The words of `verify --lines`, by the clock, at the last second of the token, and in JSON.
+/// The words of `verify --lines`, by the clock, and at the last second of the token.
 const LINES: &[&str] = &["jwt", "verify", "--lines", "--policy=p", "--keys=k"];
 
 const LINES_NOW: &[&str] = &[
@@ -22,15 +22,6 @@ const LINES_NOW: &[&str] = &[
     "--keys=k",
     "--now",
     MOMENT,
-];
-
-const LINES_JSON: &[&str] = &[
-    "jwt",
-    "verify",
-    "--lines",
-    "--json",
-    "--policy=p",
-    "--keys=k",
 ];
 
 const EMPTY: &str = "refused Empty tries=0 work=0";
@@ -146,24 +137,4 @@ fn lines_are_answered_up_to_where_a_stream_fails(rt: HostRuntime) -> Result<(), 
         assert_eq!(rt; sink.held.as_slice(), &lines.as_bytes()[..left]);
     }
     Ok(())
-}
-
-/// `--lines` needs the policy and the key set from files.
-#[test]
-fn lines_without_a_policy_file_are_wrong_words(rt: HostRuntime) -> Result<(), Fail> {
-    let found = ran_lines(rt.alloc(), &["jwt", "verify", "--lines"], &[TOKEN_A])?;
-    assert_eq!(rt; found.status, 2);
-    let needs = "error: the argument '--lines' needs '--policy <FILE>' and '--keys <FILE>'\n";
-    assert!(rt; found.out.starts_with(needs));
-    Ok(())
-}
-
-/// With `--lines --json`, one object a line.
-#[test]
-fn each_line_is_answered_in_json(rt: HostRuntime) -> Result<(), Fail> {
-    let found = ran_lines(rt.alloc(), LINES_JSON, &[TOKEN_A, "", ""])?;
-    let accepted =
-        r#"{"verdict":"accepted","signature":0,"key":0,"claims":{"iss":"joe","exp":1300819380,"http://example.com/is_root":true},"signatures":[{"state":"Verified","key":0}],"tries":[{"signature":0,"key":0,"cost":295}],"work":295}"#;
-    let refused = r#"{"verdict":"refused","fault":"Empty","signatures":[],"tries":[],"work":0}"#;
-    assert_ran(&rt, rt.alloc(), &found, &[accepted, refused], 0)
 }

@@ -4,3 +4,5 @@
 pub mod Verifying
 -- the meaning of this crate's verifier
 pub mod Meanings
+-- the keys that a verifier of ECDSA has prepared
+pub mod Held

@@ -1,8 +1,9 @@
 //! A verifier for ECDSA signatures that knows some keys beforehand.
 
-ghost use Rattle.std.specs.Prelude.{◌≡◌};
+ghost use Rattle.std.specs.Prelude.{◌≡◌, ◌≤◌, ◌+◌, cond, IfOk, IfErr};
 ghost use Rattle.jwt_mac.specs.Verifying.{key_octets, message_octets, signing_input};
 ghost use Rattle.jwt_ecdsa.specs.Meanings.{accepts_ecdsa};
+ghost use Rattle.jwt_ecdsa.specs.Held.{prepared_number, room};
 
 use crate::verifier::{Ecdsa, answer, is_ecdsa};
 use crate::verifying_by::{verifies_es256_by, verifies_es384_by, verifies_es512_by};
@@ -23,7 +24,10 @@ pub struct PreparedEcdsa {
 
 impl PreparedEcdsa {
     /// No key yet, and room for at most so many. It takes no memory.
-    pub fn new(alloc: Global, most: usize) -> PreparedEcdsa {
+    pub fn new(alloc: Global, most: usize) -> PreparedEcdsa
+        ensures none { prepared_number result ≡ 0 }
+        ensures room { room result ≡ most }
+    {
         PreparedEcdsa {
             p256: PreparedKeys::new(alloc),
             p384: PreparedKeys::new(alloc),
@@ -37,7 +41,10 @@ impl PreparedEcdsa {
     ///
     /// It takes about 0.7 ms and 64 KiB on P-256, 3 ms and 144 KiB on P-384, 5 ms and 295 KiB on P-521, and before the first key of a
     /// curve as much for its base point.
-    pub fn prepare(&mut self, alloc: Global, key: &KeyView) {
+    pub fn prepare(&mut self, alloc: Global, key: &KeyView)
+        ensures few { prepared_number self.new ≤ prepared_number self.old + 1 }
+        ensures room { prepared_number self.new + room self.new ≡ prepared_number self.old + room self.old }
+    {
         let left = self.left;
         if left == 0 {
             return;
@@ -48,7 +55,12 @@ impl PreparedEcdsa {
     }
 
     /// Whether one more key is prepared.
-    fn prepared(&mut self, alloc: Global, key: &KeyView) -> Result<bool, AllocError> {
+    #[tactic(auto, using(crate::proofs::Counted::one_more))]
+    fn prepared(&mut self, alloc: Global, key: &KeyView) -> Result<bool, AllocError>
+        ensures counted { IfOk result (λ added. prepared_number self.new ≡ prepared_number self.old + cond added 1 0) }
+        ensures same { IfErr result (λ _. prepared_number self.new ≡ prepared_number self.old) }
+        ensures room { room self.new ≡ room self.old }
+    {
         let KeyView::Ec { curve, x, y } = key else {
             return Ok(false);
         };
@@ -95,7 +107,9 @@ impl Verifier for PreparedEcdsa {
 impl Ecdsa {
     /// The verifier with the first keys of a list prepared, at most so many: those on their curves, each once, in their order. Want of
     /// memory leaves keys unprepared, and changes no answer.
-    pub fn prepared(alloc: Global, keys: &[KeyView], most: usize) -> PreparedEcdsa {
+    pub fn prepared(alloc: Global, keys: &[KeyView], most: usize) -> PreparedEcdsa
+        ensures few { prepared_number result ≤ most }
+    {
         let mut verifier = PreparedEcdsa::new(alloc, most);
         for key in keys {
             verifier.prepare(alloc, key);

@@ -14,6 +14,10 @@ pub mod Encoding
 pub mod Verifying
 -- the meaning of this crate's verifier
 pub mod Meanings
+-- the keys that are prepared
+pub mod Held
+-- the keys that a verifier of Ed25519 has prepared
+pub mod Room
 -- numbers of 256 bits, as four limbs of 64
 pub mod Limbs
 -- the elements of the field and the points, as they are held

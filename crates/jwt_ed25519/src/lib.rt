@@ -27,13 +27,15 @@
 //! ```
 #![tactic(auto)]
 
-pub use prepared::{PreparedKeys, prepare};
+pub use held::PreparedKeys;
+pub use prepared::prepare;
 pub use verifier::{Ed25519, PreparedEd25519};
 pub use verifying::{is_key, verifies, verifies_by};
 
 mod decoding;
 mod encoding;
 mod field;
+mod held;
 pub mod laws;
 mod limbs;
 mod multiples;

@@ -1,52 +1,18 @@
 //! Keys that are prepared once, to verify many signatures.
 
-ghost use Rattle.std.specs.Prelude.{◌≡◌, true, Some, IfOk, IfSome};
+ghost use Rattle.std.specs.Prelude.{◌≡◌, ◌+◌, true, cond, Some, IfOk, IfErr, IfSome};
 ghost use Rattle.std.specs.Option.{option_map};
 ghost use Rattle.jwt_ed25519.specs.Decoding.{decoded};
+ghost use Rattle.jwt_ed25519.specs.Held.{held_number};
 ghost use Rattle.jwt_ed25519.specs.Elements.{coordinates};
 ghost use Rattle.jwt_ed25519.specs.Points.{base_x, base_y, point, negated};
 ghost use Rattle.jwt_ed25519.specs.Windows.{AreWindows};
 
 use crate::decoding::decode;
+use crate::held::{PreparedBase, PreparedKey, PreparedKeys};
 use crate::point::EdwardsPoint;
 use crate::windows::{Windows, make_windows};
 use std::alloc::{AllocError, Global};
-
-/// The base point's windows.
-#[derive(Drop)]
-struct PreparedBase {
-    windows: Windows,
-    ghost are: { AreWindows 1024 (point base_x base_y) windows.table.items },
-}
-
-/// A key: its octets, the point A that they encode, and the windows of -A.
-#[derive(Drop)]
-pub struct PreparedKey {
-    octets: Vec<u8>,
-    a: EdwardsPoint,
-    windows: Windows,
-    ghost encoded: { decoded octets.items ≡ Some (coordinates a) },
-    ghost are: { AreWindows 1024 (negated (coordinates a)) windows.table.items },
-}
-
-/// Prepared keys. Beside the first stand the windows of the base point, once for all.
-///
-/// A key takes some 140 KiB, and the base point as much.
-#[derive(Drop)]
-pub struct PreparedKeys {
-    base: Option<PreparedBase>,
-    keys: Vec<PreparedKey>,
-}
-
-impl PreparedKeys {
-    /// None yet. It takes no memory.
-    pub fn new(alloc: Global) -> PreparedKeys {
-        PreparedKeys {
-            base: None,
-            keys: Vec::new(alloc),
-        }
-    }
-}
 
 /// The point that a key's octets encode, and the windows of its negative, where they were made.
 #[derive(Clone, Copy)]
@@ -138,7 +104,10 @@ pub fn prepared(keys: &PreparedKeys) -> &[PreparedKey] {
 
 /// Prepares a key beside the others, and before the first one the base point. False where it encodes no point, or is prepared
 /// already. Where memory is refused, the keys prepared before it stay as they are.
-pub fn prepare(alloc: Global, keys: &mut PreparedKeys, octets: &[u8]) -> Result<bool, AllocError> {
+pub fn prepare(alloc: Global, keys: &mut PreparedKeys, octets: &[u8]) -> Result<bool, AllocError>
+    ensures counted { IfOk result (λ added. held_number keys.new ≡ held_number keys.old + cond added 1 0) }
+    ensures same { IfErr result (λ _. held_number keys.new ≡ held_number keys.old) }
+{
     if found(keys.keys.as_slice(), octets).is_some() {
         return Ok(false);
     }

@@ -1,10 +1,12 @@
 //! A verifier for Ed25519 signatures.
 
-ghost use Rattle.std.specs.Prelude.{◌≡◌, false};
+ghost use Rattle.std.specs.Prelude.{◌≡◌, ◌≤◌, ◌+◌, false};
 ghost use Rattle.jwt_mac.specs.Verifying.{AnswersBy, key_octets, message_octets, signing_input};
 ghost use Rattle.jwt_ed25519.specs.Meanings.{names_eddsa, accepts_ed25519};
+ghost use Rattle.jwt_ed25519.specs.Room.{prepared_number, room};
 
-use crate::prepared::{PreparedKeys, prepare};
+use crate::held::PreparedKeys;
+use crate::prepared::prepare;
 use crate::verifying::{verifies, verifies_by};
 use jwt_mac::{Alg, Answer, EdCurve, KeyView, Message, Verifier};
 use std::alloc::Global;
@@ -75,7 +77,10 @@ pub struct PreparedEd25519 {
 
 impl PreparedEd25519 {
     /// No key yet, and room for at most so many. It takes no memory.
-    pub fn new(alloc: Global, most: usize) -> PreparedEd25519 {
+    pub fn new(alloc: Global, most: usize) -> PreparedEd25519
+        ensures none { prepared_number result ≡ 0 }
+        ensures room { room result ≡ most }
+    {
         PreparedEd25519 {
             keys: PreparedKeys::new(alloc),
             left: most,
@@ -86,7 +91,10 @@ impl PreparedEd25519 {
     /// than `most`, and one for which memory is refused is left unprepared.
     ///
     /// It takes some 140 KiB, and before the first key as much for the base point.
-    pub fn prepare(&mut self, alloc: Global, key: &KeyView) {
+    pub fn prepare(&mut self, alloc: Global, key: &KeyView)
+        ensures few { prepared_number self.new ≤ prepared_number self.old + 1 }
+        ensures room { prepared_number self.new + room self.new ≡ prepared_number self.old + room self.old }
+    {
         let left = self.left;
         if left == 0 {
             return;
@@ -138,7 +146,9 @@ impl Verifier for PreparedEd25519 {
 impl Ed25519 {
     /// The verifier with the first keys of a list prepared, at most so many: those that encode points, each once, in their order. Want
     /// of memory leaves keys unprepared, and changes no answer.
-    pub fn prepared(alloc: Global, keys: &[KeyView], most: usize) -> PreparedEd25519 {
+    pub fn prepared(alloc: Global, keys: &[KeyView], most: usize) -> PreparedEd25519
+        ensures few { prepared_number result ≤ most }
+    {
         let mut verifier = PreparedEd25519::new(alloc, most);
         for key in keys {
             verifier.prepare(alloc, key);

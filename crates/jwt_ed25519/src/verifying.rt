@@ -10,10 +10,11 @@ ghost use Rattle.jwt_ed25519.specs.Verifying.{challenge, equation_holds, is_key,
 
 use crate::decoding::decode;
 use crate::encoding::is_encoding;
+use crate::held::{PreparedKey, PreparedKeys};
 use crate::limbs::{Limbs, from_octets, is_less};
 use crate::multiples::{multiple, or_neutral, sum};
 use crate::point::EdwardsPoint;
-use crate::prepared::{AtHand, PreparedKey, PreparedKeys, base_windows, key_at_hand, prepared};
+use crate::prepared::{AtHand, base_windows, key_at_hand, prepared};
 use crate::scalar::{from_digest, order};
 use crate::windows::{Windows, window_multiple};
 use jwt_mac::sha512_behind;

@@ -21,11 +21,7 @@ fn main(rt: HostRuntime) -> Result<(), Stop> {
     let mut verifiers: Vec<Box<dyn Verifier>> = Vec::new(rt.alloc());
     let verifier = BuiltIn::prepared(rt.alloc(), &keys, PREPARED_KEYS);
     verifiers.push(Box::new(rt.alloc(), verifier)?)?;
-    let validator = Validator {
-        policy,
-        keys,
-        verifiers,
-    };
+    let validator = Validator::new(policy, keys, verifiers);
     answer(&rt, &validator)?;
     Ok(())
 }

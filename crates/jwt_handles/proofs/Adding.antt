@@ -7,7 +7,7 @@ use Rattle.jwt_memory.specs.declared.outcome.Handed.{Handed}
 use Rattle.jwt_memory.specs.Outcomes.{payload_in, report_in}
 use Rattle.jwt_handles.specs.declared.state.Last.{Last}
 use Rattle.jwt_handles.specs.declared.report.FowReport.{FowReport}
-use Rattle.jwt_handles.specs.Keeping.{AddsHanded, AddsNone, AddsOnly}
+use Rattle.jwt_handles.specs.Keeping.{AddsHanded, AddsOnly}
 use Rattle.jwt_handles.specs.Reports.{Says, claims_in}
 
 module _ (w : ℕ) (x : List ℕ) (said : FowReport) (last : Last) where
@@ -33,13 +33,3 @@ module _ (w : ℕ) (x : List ℕ) (said : FowReport) (last : Last) where
       | inr payload ↦ (let wrong : None ≡ Some (arc_value e.basis).payload.items = sym payload ∙ new.3 in cc)
     ]
   ]
-
-  pub adds_none : (b a : Option Memory) → AddsNone b a → AddsOnly w x said last b a
-  adds_none None None adds = tt
-  adds_none None (Some m) adds = tt
-  adds_none (Some n) None adds = tt
-  adds_none (Some n) (Some m) adds = λ e h. inl (adds e h)
-
-  pub adds_same : (b : Option Memory) → AddsOnly w x said last b b
-  adds_same None = tt
-  adds_same (Some n) = λ e h. inl h

@@ -1,20 +1,24 @@
 -- Public documents, and the issuer that a token names: for keys by URL, and for several issuers.
-use Rattle.std.specs.Prelude.{◌≡◌, ◌≢◌, ℕ, List, [], ◌∷◌, Bool, not, ◌&&◌, codes, Option, Some, None, Result, Ok, Err}
+use Rattle.std.specs.Prelude.{◌≡◌, ◌≢◌, ℕ, List, [], ◌∷◌, Bool, true, false, not, ◌&&◌, codes, Option, Some, None, Result, Ok, Err}
 use Rattle.std.specs.List.{list_any}
 use Rattle.serde_json.specs.Data.{Members}
 use Rattle.jwt_text.specs.declared.fault.TextFault.{TextFault}
 use Rattle.jwt_text.specs.Members.{text_at}
 use Rattle.jwt_text.specs.ObjectText.{object_of}
 use Rattle.jwt_mac.specs.Algorithm.{is_hmac_alg}
+use Rattle.jwt_mac.specs.Verifying.{KeyOctets, OctKey}
 use Rattle.jwt_keys.specs.Keys.{KeyParts}
 use Rattle.jwt_jws.specs.Token.{Token}
 use Rattle.jwt_policy.specs.Settings.{Settings}
 use Rattle.jwt_verify.specs.declared.report.Fault.{Fault}
 use Rattle.jwt_handles.specs.declared.status.TheConstants.{FOW_OUT_OF_MEMORY, FOW_UNNAMED}
-use Rattle.jwt_handles.specs.Asking.{is_secret}
 use Rattle.jwt_handles.specs.Written.{IsAbsent, Puts}
 
 -- the key is a shared secret (RFC 7518, section 6.4)
+abbrev pub is_secret : KeyOctets → Bool
+is_secret (OctKey k) = true
+is_secret _ = false
+
 abbrev pub is_secret_key : KeyParts → Bool
 is_secret_key key = is_secret key.octets
 

@@ -1,16 +1,13 @@
--- What a judging adds to the memories of a validator.
+-- What a judging adds to the memory of a validator.
 use Rattle.std.specs.Prelude.{◌≡◌, ◌⊎◌, ℕ, List, Option, Some, None}
 use Rattle.std.specs.Arc.{arc_value}
-use Rattle.jwt_told.specs.Told.{ToldParts, told}
 use Rattle.jwt_memory.specs.declared.memory.MemoryEntry.{MemoryEntry}
 use Rattle.jwt_memory.specs.declared.memory.Memory.{Memory}
 use Rattle.jwt_memory.specs.declared.outcome.Handed.{Handed}
 use Rattle.jwt_memory.specs.Entries.{Holds}
-use Rattle.jwt_memory.specs.Outcomes.{KeepsNone, KeepsHanded, report_of, acceptance_of}
-use Rattle.jwt_memory.specs.ToldKept.{KeepsTold}
+use Rattle.jwt_memory.specs.Outcomes.{KeepsHanded, report_of, acceptance_of}
 use Rattle.jwt_handles.specs.declared.state.State.{State}
 use Rattle.jwt_handles.specs.declared.state.Last.{Last}
-use Rattle.jwt_handles.specs.declared.grounds.Documents.{Documents}
 use Rattle.jwt_handles.specs.declared.report.FowReport.{FowReport}
 use Rattle.jwt_handles.specs.Documents.{documents}
 use Rattle.jwt_handles.specs.ProvedKept.{HasSameRoom}
@@ -25,22 +22,11 @@ abbrev pub AddsOnly : ℕ → List ℕ → FowReport → Last → Option Memory 
 AddsOnly ceiling octets said last (Some before) (Some after) = (entry : MemoryEntry) → Holds after entry → Holds before entry ⊎ IsOfJudging ceiling octets said last entry
 AddsOnly ceiling octets said last _ _ = Unit {0}
 
--- what it keeps anew is kept by these answers
-abbrev pub AddsTold : List ToldParts → Documents → Option Memory → Option Memory → Type 0
-AddsTold answers grounds (Some before) (Some after) = KeepsTold answers grounds.policy grounds.keys before after
-AddsTold answers grounds _ _ = Unit {0}
-
--- what a judging by answers does to the memories
-abbrev pub RemembersTold : State → List ℕ → FowReport → Option State → Type 0
-RemembersTold before octets said None = ⊥
-RemembersTold before octets said (Some after) = AddsOnly (documents before).policy.run.work octets said after.last before.memory after.memory
-    × AddsTold (told before.answers) (documents before) before.memory after.memory × HasSameRoom after.memory before.memory × (after.grounds ≡ before.grounds)
-
--- what a judging by the proved verifiers does to them
+-- what a judging does to the memory
 abbrev pub RemembersProved : State → List ℕ → FowReport → Option State → Type 0
 RemembersProved before octets said None = ⊥
 RemembersProved before octets said (Some after) = AddsOnly (documents before).policy.run.work octets said after.last before.grounds.1 after.grounds.1
-    × HasSameRoom after.grounds.1 before.grounds.1 × (after.memory ≡ before.memory)
+    × HasSameRoom after.grounds.1 before.grounds.1
 
 -- ---- Cited by contracts of private functions alone
 
@@ -48,8 +34,3 @@ RemembersProved before octets said (Some after) = AddsOnly (documents before).po
 abbrev pub AddsHanded : ℕ → List ℕ → Handed → Option Memory → Option Memory → Type 0
 AddsHanded ceiling octets handed (Some before) (Some after) = KeepsHanded octets ceiling handed before after
 AddsHanded ceiling octets handed _ _ = Unit {0}
-
--- it keeps nothing new
-abbrev pub AddsNone : Option Memory → Option Memory → Type 0
-AddsNone (Some before) (Some after) = KeepsNone before after
-AddsNone _ _ = Unit {0}

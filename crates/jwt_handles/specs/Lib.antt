@@ -8,13 +8,13 @@ pub mod Evidence
 pub mod Faults
 -- the meaning of the proved verifiers, and the memory of tokens that they accepted
 pub mod ProvedKept
--- the memories of a validator, and the grounds of a verdict that comes out of one
+-- the memory of a validator
 pub mod Remembering
 -- judging, and the report that an exported function writes
 pub mod Reports
 -- the payload that is kept of the last judging
 pub mod Payloads
--- what a judging adds to the memories of a validator
+-- what a judging adds to the memory of a validator
 pub mod Keeping
 -- how the token that was accepted last is bound, by its claim `cnf`
 pub mod Bound
@@ -22,8 +22,6 @@ pub mod Bound
 pub mod Written
 -- access rules that are held, and what they say of the claims of the last acceptance
 pub mod Access
--- questions, as they are written for the caller, and their answers
-pub mod Asking
 -- what one call knows of the claims of the last acceptance
 pub mod Expecting
 -- the ownership of a handle
@@ -32,8 +30,6 @@ pub mod Handles
 pub mod Issuers
 -- issuing by a validator, in the numbers of the header
 pub mod Issuing
--- the most questions that one token can raise
-pub mod MostQuestions
 -- a token judged by the proved verifiers
 pub mod Proving
 -- memories of tokens that count once, and what they answer of the token that was accepted last

@@ -10,6 +10,7 @@ ghost use Rattle.jwt_handles.specs.Evidence.{states_kept, claims_kept, payload_k
 ghost use Rattle.jwt_handles.specs.Expecting.{SaysText, SaysHalfHash, alg_beside, alg_of_last};
 
 use crate::handle::{Handle, take};
+use crate::reading::read_token;
 use crate::state::{Last, State};
 use crate::status::{
     FOW_ABSENT, FOW_NOT_EXPECTED, FOW_NOT_OPEN, FOW_OK, FOW_OUT_OF_MEMORY, FOW_REFUSED,
@@ -19,7 +20,6 @@ use jwt_expected::{Expected, Unmet, Wanted, first_unmet};
 use jwt_jws::Signed;
 use jwt_mac::Alg;
 use jwt_policy::{Claims, known_alg};
-use jwt_told::read_token;
 use jwt_verify::SigState;
 use std::alloc::{AllocError, Global};
 use std::str::from_utf8;

@@ -1,6 +1,6 @@
 //! The policy and the keys that a validator judges by, with the memory of the proved verifiers.
 
-ghost use Rattle.jwt_handles.specs.declared.status.TheConstants.{FOW_ASKS, FOW_OK, FOW_OUT_OF_MEMORY, FOW_REFUSED};
+ghost use Rattle.jwt_handles.specs.declared.status.TheConstants.{FOW_OK, FOW_OUT_OF_MEMORY, FOW_REFUSED};
 ghost use Rattle.std.specs.Prelude.{◌≡◌, ◌≢◌, ◌≤◌, None, IfSome};
 ghost use Rattle.std.specs.Arc.{arc_value};
 
@@ -81,11 +81,6 @@ impl Grounds {
         &self.shared.documents
     }
 
-    /// The proved verifiers.
-    pub(crate) fn verifiers(&self) -> &BuiltIn {
-        &self.shared.verifiers
-    }
-
     /// The documents and the proved verifiers, for another validator; `None` where too many hold them.
     pub(crate) fn share(&self) -> Option<Arc<SharedGrounds>>
         ensures { IfSome result (λ it. (arc_value it).documents ≡ self.now.0) }
@@ -114,7 +109,7 @@ impl Grounds {
     ) -> Judging
         ensures judged { result.said.verdict ≤ FOW_REFUSED
             → IsProved self.old now octets.now result.said result.last }
-        ensures never_asks { result.said.verdict ≢ FOW_ASKS }
+        ensures unused { result.said.verdict ≢ 2 }
         ensures claims { result.said.verdict ≢ FOW_OK → claims_kept result.last ≡ None }
         ensures payload { KeepsPayload self.old.0.policy octets.now
             result.said.verdict (payload_kept result.last) }

@@ -5,22 +5,22 @@ ghost use Rattle.std.specs.Prelude.{◌≡◌, ◌≢◌, IsUtf8, false, option_
 ghost use Rattle.std.specs.List.{list_any};
 ghost use Rattle.std.specs.Option.{option_map_or};
 ghost use Rattle.jwt_mac.specs.Algorithm.{is_hmac_alg};
+ghost use Rattle.jwt_mac.specs.Verifying.{key_octets};
 ghost use Rattle.jwt_text.specs.ObjectText.{object_of};
 ghost use Rattle.jwt_keys.specs.KeySets.{key_set};
 ghost use Rattle.jwt_verify.specs.Verdict.{token_of};
 ghost use Rattle.jwt_handles.specs.Documents.{documents};
-ghost use Rattle.jwt_handles.specs.Issuers.{PutsIssuer, PutsNamed, are_public, is_secret_key, named_issuer, sole, text_in};
+ghost use Rattle.jwt_handles.specs.Issuers.{PutsIssuer, PutsNamed, are_public, is_secret, is_secret_key, named_issuer, sole, text_in};
 ghost use Rattle.jwt_handles.specs.Written.{PutsHeld, PutsSome};
 
-use crate::asking::is_secret;
+use crate::reading::read_token;
 use crate::state::State;
 use crate::status::{FOW_ABSENT, FOW_OUT_OF_MEMORY, FOW_UNNAMED};
 use crate::writing::put;
 use jwt_keys::KeySet;
-use jwt_mac::Alg;
+use jwt_mac::{Alg, KeyView};
 use jwt_policy::Policy;
 use jwt_text::{TextFault, object};
-use jwt_told::read_token;
 use std::alloc::Global;
 use std::str::from_utf8;
 
@@ -35,6 +35,16 @@ fn some_is_hmac(algs: &[Alg]) -> bool
         }
     }
     false
+}
+
+/// Whether a key is a shared secret.
+fn is_secret(key: &KeyView) -> bool
+    ensures { result ≡ is_secret (key_octets key.now) }
+{
+    match key {
+        KeyView::Oct { .. } => true,
+        _ => false,
+    }
 }
 
 /// Whether the key of this number is a shared secret; false where there is none.

@@ -1,38 +1,21 @@
-//! The judging of a token by answers.
+//! A judging, with what is kept of it.
 
-ghost use Rattle.jwt_handles.specs.declared.status.TheConstants.{FOW_ASKS, FOW_OK, FOW_OUT_OF_MEMORY, FOW_REFUSED};
-ghost use Rattle.std.specs.Prelude.{◌≡◌, ◌≢◌, ◌↔◌, ◌⊎◌, None, ◌≤◌, true, false, IfOk, IfErr, IsTrue, length, option_map};
+ghost use Rattle.std.specs.Prelude.{◌≡◌, ◌≢◌, ◌↔◌, ◌⊎◌, None, true, false, IfOk, IfErr, IsTrue, length, option_map};
 ghost use Rattle.std.specs.Arc.{arc_value};
-ghost use Rattle.jwt_jws.specs.Views.{token};
-ghost use Rattle.jwt_keys.specs.KeySets.{key_set};
 ghost use Rattle.jwt_verify.specs.Table.{work};
 ghost use Rattle.jwt_verify.specs.Verdict.{checked};
-ghost use Rattle.jwt_told.specs.Questions.{kept_parts, question_at};
-ghost use Rattle.jwt_told.specs.Told.{told};
 ghost use Rattle.jwt_memory.specs.Outcomes.{report_in, report_of, paid_in, is_remembered, payload_in, payload_unless};
 ghost use Rattle.jwt_memory.specs.Payloads.{IsAcceptance};
-ghost use Rattle.jwt_access.specs.Moments.{moment_under};
-ghost use Rattle.jwt_handles.specs.Documents.{documents};
 ghost use Rattle.jwt_handles.specs.declared.state.Evidence.TheVariants.{Shared};
-ghost use Rattle.jwt_handles.specs.Evidence.{tries_kept, claims_kept, payload_kept, none_yet};
+ghost use Rattle.jwt_handles.specs.Evidence.{claims_kept, payload_kept, none_yet};
 ghost use Rattle.jwt_handles.specs.Faults.{missing_in, missing_name, bare};
-ghost use Rattle.jwt_handles.specs.ProvedKept.{HasSameRoom};
-ghost use Rattle.jwt_handles.specs.Keeping.{AddsOnly, AddsTold};
-ghost use Rattle.jwt_handles.specs.Payloads.{KeepsPayload};
-ghost use Rattle.jwt_handles.specs.Reports.{IsAsked, IsJudged, Says, claims_in, report_numbers};
+ghost use Rattle.jwt_handles.specs.Reports.{Says, claims_in, report_numbers};
 
-use crate::by_answers::ByAnswers;
 use crate::last::no_moment;
 use crate::report::FowReport;
-use crate::state::{Evidence, Last, State};
-use crate::status::{FOW_ASKS, FOW_OUT_OF_MEMORY};
-use jwt_access::Moment;
-use jwt_jws::Signed;
-use jwt_keys::KeySet;
-use jwt_mac::Budget;
+use crate::state::{Evidence, Last};
 use jwt_memory::{Basis, Handed, Outcome};
 use jwt_policy::{ClaimFault, Claims};
-use jwt_told::{Asking, OpenPair, OwnedQuestion};
 use jwt_verify::{Fault, Report, Verdict};
 use std::alloc::{AllocError, Global};
 use std::sync::Arc;
@@ -78,59 +61,6 @@ pub(crate) fn bare(alloc: Global, verdict: u32) -> Judging
     }
 }
 
-/// A copy of what a question asks about a token; `None` where there is no such pair.
-fn copied(
-    alloc: Global,
-    pair: OpenPair,
-    signed: &Signed<'_>,
-    keys: &KeySet,
-) -> Result<Option<OwnedQuestion>, AllocError>
-    ensures { IfOk result (λ o. option_map kept_parts o
-        ≡ question_at (token signed.now) (key_set keys.now).keys pair.signature pair.key) }
-{
-    match pair.about(signed, keys) {
-        Some(asked) => Ok(Some(OwnedQuestion::of(alloc, &asked)?)),
-        None => Ok(None),
-    }
-}
-
-/// The judging that asks. Its tries and its question are kept.
-fn asking(alloc: Global, asks: Asking<'_>, keys: &KeySet) -> Result<Judging, AllocError>
-    ensures verdict { IfOk result (λ j. j.said.verdict ≡ FOW_ASKS) }
-    ensures signature { IfOk result (λ j. j.said.signature ≡ asks.entry.pair.signature) }
-    ensures key { IfOk result (λ j. j.said.key ≡ asks.entry.pair.key) }
-    ensures count { IfOk result (λ j. j.said.tries ≡ length asks.entry.tries.items) }
-    ensures tries { IfOk result (λ j. tries_kept j.last ≡ asks.entry.tries.items) }
-    ensures claims { IfOk result (λ j. claims_kept j.last ≡ None) }
-    ensures payload { IfOk result (λ j. payload_kept j.last ≡ None) }
-    ensures anew { IfOk result (λ j. j.last.remembered ≡ false) }
-    ensures asked { IfOk result (λ j. option_map kept_parts j.last.asked
-        ≡ question_at (token asks.entry.token) (key_set keys.now).keys
-        asks.entry.pair.signature asks.entry.pair.key) }
-{
-    let Asking { token, pair, tries } = asks;
-    let asked = copied(alloc, pair, &token, keys)?;
-    let mut said = FowReport::bare(FOW_ASKS);
-    said.signature = pair.signature;
-    said.key = pair.key;
-    said.tries = tries.len() as u64;
-    Ok(Judging {
-        said,
-        last: Last {
-            evidence: Evidence::Own {
-                states: Vec::new(alloc),
-                tries,
-                claims: None,
-                payload: None,
-            },
-            missing: Vec::new(alloc),
-            asked,
-            remembered: false,
-            moment: no_moment(),
-        },
-    })
-}
-
 /// The claims of an acceptance.
 fn claims_in(verdict: Verdict<'_>) -> Option<Claims>
     ensures { result ≡ claims_in verdict.entry }
@@ -167,7 +97,6 @@ fn kept(report: Report<'_>, payload: Option<Vec<u8>>, cost: u64, missing: Vec<u8
                 payload,
             },
             missing,
-            asked: None,
             remembered: false,
             moment: no_moment(),
         },
@@ -188,7 +117,6 @@ fn shared(
     ensures last { result.last ≡ record {
       evidence = Shared basis accepted;
       missing = missing;
-      asked = None;
       remembered = remembered;
       moment = none_yet;
     } }
@@ -201,7 +129,6 @@ fn shared(
         last: Last {
             evidence: Evidence::Shared { basis, accepted },
             missing,
-            asked: None,
             remembered,
             moment: no_moment(),
         },
@@ -294,71 +221,4 @@ pub(crate) fn judging_of(
         }
         Outcome::Remembered(basis, fault) => recalled(alloc, basis, fault),
     }
-}
-
-/// The judging of a state on a token. It changes the state's memory of tokens and its scratch, whose contents affect nothing.
-fn report_on(alloc: Global, state: &mut State, octets: &[u8], now: i64) -> Judging
-    ensures judged { result.said.verdict ≤ FOW_REFUSED
-        → IsJudged state.old now octets.now result.said result.last }
-    ensures asks { result.said.verdict ≡ FOW_ASKS
-        → IsAsked state.old now octets.now result.said result.last }
-    ensures claims { result.said.verdict ≢ FOW_OK → claims_kept result.last ≡ None }
-    ensures payload { KeepsPayload (documents state.old).policy octets.now
-        result.said.verdict (payload_kept result.last) }
-    ensures grounds { state.new.grounds ≡ state.old.grounds }
-    ensures told { told state.new.answers ≡ told state.old.answers }
-    ensures open { result.said.verdict ≤ FOW_OUT_OF_MEMORY }
-    ensures adds { AddsOnly (documents state.old).policy.run.work octets.now result.said result.last
-        state.old.memory state.new.memory }
-    ensures kept { AddsTold (told state.old.answers) (documents state.old)
-        state.old.memory state.new.memory }
-    ensures room { HasSameRoom state.new.memory state.old.memory }
-{
-    let documents = state.grounds.documents();
-    let mut budget = documents.policy.budget();
-    let by = ByAnswers {
-        documents,
-        moment: now,
-        answers: &state.answers,
-    };
-    match by.outcome(
-        alloc,
-        &mut state.memory,
-        octets,
-        &mut budget,
-        &mut *state.scratch,
-    ) {
-        Ok(handed) => match judging_of(alloc, handed, budget.octets()) {
-            Ok(judging) => judging,
-            Err(_) => bare(alloc, FOW_OUT_OF_MEMORY),
-        },
-        Err(asks) => match asking(alloc, asks, &documents.keys) {
-            Ok(judging) => judging,
-            Err(_) => bare(alloc, FOW_OUT_OF_MEMORY),
-        },
-    }
-}
-
-/// Judges a token, and keeps the report.
-pub(crate) fn judge_state(alloc: Global, state: &mut State, octets: &[u8], now: i64) -> FowReport
-    ensures judged { result.verdict ≤ FOW_REFUSED
-        → IsJudged state.old now octets.now result state.new.last }
-    ensures asks { result.verdict ≡ FOW_ASKS → IsAsked state.old now octets.now result state.new.last }
-    ensures claims { result.verdict ≢ FOW_OK → claims_kept state.new.last ≡ None }
-    ensures payload { KeepsPayload (documents state.old).policy octets.now
-        result.verdict (payload_kept state.new.last) }
-    ensures moment { state.new.last.moment ≡ moment_under (documents state.old).policy now }
-    ensures grounds { state.new.grounds ≡ state.old.grounds }
-    ensures told { told state.new.answers ≡ told state.old.answers }
-    ensures open { result.verdict ≤ FOW_OUT_OF_MEMORY }
-    ensures adds { AddsOnly (documents state.old).policy.run.work octets.now result state.new.last
-        state.old.memory state.new.memory }
-    ensures kept { AddsTold (told state.old.answers) (documents state.old)
-        state.old.memory state.new.memory }
-    ensures room { HasSameRoom state.new.memory state.old.memory }
-{
-    let Judging { said, mut last } = report_on(alloc, state, octets, now);
-    last.moment = Moment::under(&state.grounds.documents().policy, now);
-    state.last = last;
-    said
 }

@@ -42,7 +42,6 @@ impl Last {
         Last {
             evidence: Evidence::none(alloc),
             missing: Vec::new(alloc),
-            asked: None,
             remembered: false,
             moment: no_moment(),
         }

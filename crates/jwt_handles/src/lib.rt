@@ -8,10 +8,7 @@
 #![tactic(auto)]
 
 mod access;
-pub mod answering;
-mod asking;
 pub mod bound;
-mod by_answers;
 pub mod entries;
 pub mod expecting;
 mod faults;
@@ -22,7 +19,6 @@ mod issuing;
 mod judging;
 pub mod key_sources;
 mod last;
-mod most_questions;
 pub mod nonces;
 pub mod once_handle;
 pub mod once_state;
@@ -34,6 +30,7 @@ pub mod possession_state;
 pub mod possessions;
 mod proving;
 mod raw_box;
+mod reading;
 mod remembering;
 pub mod renewal;
 pub mod report;

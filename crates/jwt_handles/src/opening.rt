@@ -1,19 +1,15 @@
 //! Holding documents, and letting them go.
 
 ghost use Rattle.jwt_handles.specs.declared.status.TheConstants.{FOW_NOT_OPEN, FOW_OK, FOW_OUT_OF_MEMORY};
-ghost use Rattle.std.specs.Prelude.{◌≡◌, ◌≢◌, IfSome, None, IfOk, IfErr};
+ghost use Rattle.std.specs.Prelude.{◌≡◌, ◌≢◌, None, IfOk, IfErr};
 ghost use Rattle.std.specs.Arc.{arc_value};
-ghost use Rattle.jwt_keys.specs.KeySets.{key_set};
 ghost use Rattle.jwt_policy.specs.Document.{policy_of};
-ghost use Rattle.jwt_handles.specs.Documents.{documents};
 ghost use Rattle.jwt_handles.specs.Reports.{IsBeside, IsFresh, IsOpened, IsRead, IsRefused};
 ghost use Rattle.jwt_handles.specs.Written.{PutsSome, refused_member};
-ghost use Rattle.jwt_handles.specs.MostQuestions.{most_questions};
 
 use crate::faults::{keys_number, policy_number};
 use crate::grounds::{Documents, Grounds, SharedGrounds};
 use crate::handle::{Handle, take};
-use crate::most_questions::most_of;
 use crate::state::{Last, State};
 use crate::status::{FOW_ABSENT, FOW_NOT_OPEN, FOW_OK, FOW_OUT_OF_MEMORY, FOW_REFUSED, NotHeld};
 use crate::writing::put;
@@ -21,17 +17,16 @@ use jwt_built_in::{BuiltIn, PREPARED_KEYS};
 use jwt_keys::{KeySet, KeysFault};
 use jwt_policy::{Policy, PolicyFault};
 use jwt_text::Scratch;
-use jwt_told::Answers;
 use std::alloc::{AllocError, Global};
 use std::sync::Arc;
 
-/// The documents of a policy and a key set, or the status and the number of the fault for which one of them is refused.
+/// The documents of a policy, with a ceiling of 64 tries where it names none and allows an algorithm with public keys, and of a key set; or the status and the number of the fault for which one of them is refused.
 fn documents_of(alloc: Global, policy: &[u8], keys: &[u8]) -> Result<Documents, NotHeld>
     ensures read { IfOk result (λ it. IsRead policy.now keys.now it) }
     ensures refused { IfErr result (λ e. IsRefused policy.now keys.now e.status e.fault) }
 {
     let policy = match Policy::read(alloc, policy) {
-        Ok(policy) => policy,
+        Ok(policy) => policy.with_ceiling(),
         Err(PolicyFault::OutOfMemory) => return Err(NotHeld {
             status: FOW_OUT_OF_MEMORY,
             fault: 0,
@@ -80,7 +75,7 @@ fn shared_of(
     }
 }
 
-/// A handle on these documents, with no answers. `Err`: memory was refused.
+/// A handle on these documents. `Err`: memory was refused.
 fn handle_on(alloc: Global, shared: Arc<SharedGrounds>) -> Result<Handle, AllocError>
     ensures { IfOk result (λ h. IsFresh (arc_value shared).documents h.state) }
 {
@@ -89,8 +84,6 @@ fn handle_on(alloc: Global, shared: Arc<SharedGrounds>) -> Result<Handle, AllocE
     };
     let state = State {
         grounds: Grounds::new(shared),
-        answers: Answers::new(alloc),
-        memory: None,
         last: Last::new(alloc),
         scratch,
     };
@@ -184,21 +177,6 @@ pub fn open_beside(validator: &mut Handle, alloc: Global, another: &mut Handle) 
         }
         Err(_) => FOW_OUT_OF_MEMORY,
     }
-}
-
-/// The most questions that one token can raise. `FOW_OK`; `FOW_NOT_OPEN`: nothing is held.
-pub fn most_questions(validator: &mut Handle, alloc: Global, most: &mut u32) -> u32
-    ensures same { validator.new.state ≡ validator.old.state }
-    ensures none { validator.old.state ≡ None → result ≡ FOW_NOT_OPEN }
-    ensures most { IfSome validator.old.state (λ d. (result ≡ FOW_OK)
-        × (most.new ≡ most_questions (documents d).policy (key_set (documents d).keys).keys)) }
-{
-    let Some(state) = take(validator, alloc) else {
-        return FOW_NOT_OPEN;
-    };
-    *most = most_of(&state);
-    *validator = Handle::of(state);
-    FOW_OK
 }
 
 /// Writes the name of the member for which a policy is refused at the front of `out`. `FOW_OK`; `FOW_OUT_OF_MEMORY`: memory was refused;

@@ -13,6 +13,7 @@ ghost use Rattle.jwt_handles.specs.Reports.{report_numbers};
 use crate::faults::policy_number;
 use crate::handle::{Handle, take};
 use crate::possession_state::PossessionState;
+use crate::reading::read_token;
 use crate::report::FowReport;
 use crate::state::{Last, State};
 use crate::status::{FOW_ABSENT, FOW_NOT_OPEN, FOW_OK, FOW_OUT_OF_MEMORY, FOW_REFUSED, NotHeld};
@@ -24,7 +25,6 @@ use jwt_possession::{
     Access, KeyFault, PolicyLack, Possession, ProofFault, ProofPolicy, ProofPolicyFault, Request,
     RequestFault, judge_proof,
 };
-use jwt_told::read_token;
 use std::alloc::{AllocError, Global};
 use std::str::from_utf8;
 

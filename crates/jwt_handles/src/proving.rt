@@ -1,12 +1,11 @@
 //! A token judged by the proved verifiers.
 
-ghost use Rattle.jwt_handles.specs.declared.status.TheConstants.{FOW_ASKS, FOW_OK, FOW_OUT_OF_MEMORY, FOW_REFUSED};
+ghost use Rattle.jwt_handles.specs.declared.status.TheConstants.{FOW_OK, FOW_OUT_OF_MEMORY, FOW_REFUSED};
 ghost use Rattle.std.specs.Prelude.{◌≡◌, ◌≢◌, ◌≤◌, map};
 ghost use Rattle.jwt_verify.specs.Reports.{IsReport, terms};
 ghost use Rattle.jwt_verify.specs.Table.{work};
 ghost use Rattle.jwt_memory.specs.Outcomes.{report_in, paid_in, is_remembered, payload_in};
 ghost use Rattle.jwt_memory.specs.Payloads.{HandsOut};
-ghost use Rattle.jwt_told.specs.Told.{told};
 ghost use Rattle.jwt_access.specs.Moments.{moment_under};
 ghost use Rattle.jwt_handles.specs.Documents.{documents};
 ghost use Rattle.jwt_handles.specs.Evidence.{claims_kept, payload_kept};
@@ -93,7 +92,7 @@ fn judging_under(
     ensures judged { result.said.verdict ≤ FOW_REFUSED
         → IsProved (lent_documents under.now, memory.old) under.now.moment octets.now
         result.said result.last }
-    ensures never_asks { result.said.verdict ≢ FOW_ASKS }
+    ensures unused { result.said.verdict ≢ 2 }
     ensures claims { result.said.verdict ≢ FOW_OK → claims_kept result.last ≡ None }
     ensures payload { KeepsPayload under.now.policy.now octets.now
         result.said.verdict (payload_kept result.last) }
@@ -143,7 +142,7 @@ impl SharedGrounds {
         requires kept { AreProvedKept self.now.documents memory.old }
         ensures judged { result.said.verdict ≤ FOW_REFUSED
             → IsProved (self.now.documents, memory.old) now octets.now result.said result.last }
-        ensures never_asks { result.said.verdict ≢ FOW_ASKS }
+        ensures unused { result.said.verdict ≢ 2 }
         ensures claims { result.said.verdict ≢ FOW_OK → claims_kept result.last ≡ None }
         ensures payload { KeepsPayload self.now.documents.policy octets.now
             result.said.verdict (payload_kept result.last) }
@@ -161,18 +160,16 @@ impl SharedGrounds {
     }
 }
 
-/// Judges a token by the proved verifiers, and keeps the report.
-pub(crate) fn prove_state(alloc: Global, state: &mut State, octets: &[u8], now: i64) -> FowReport
+/// Judges a token, and keeps the report.
+pub(crate) fn judge_state(alloc: Global, state: &mut State, octets: &[u8], now: i64) -> FowReport
     ensures judged { result.verdict ≤ FOW_REFUSED
         → IsProved state.old.grounds now octets.now result state.new.last }
-    ensures never_asks { result.verdict ≢ FOW_ASKS }
+    ensures unused { result.verdict ≢ 2 }
     ensures claims { result.verdict ≢ FOW_OK → claims_kept state.new.last ≡ None }
     ensures payload { KeepsPayload (documents state.old).policy octets.now
         result.verdict (payload_kept state.new.last) }
     ensures moment { state.new.last.moment ≡ moment_under (documents state.old).policy now }
     ensures documents { documents state.new ≡ documents state.old }
-    ensures told { told state.new.answers ≡ told state.old.answers }
-    ensures memory { state.new.memory ≡ state.old.memory }
     ensures room { HasSameRoom state.new.grounds.1 state.old.grounds.1 }
     ensures open { result.verdict ≤ FOW_OUT_OF_MEMORY }
     ensures adds { AddsOnly (documents state.old).policy.run.work octets.now result state.new.last

@@ -20,20 +20,16 @@ fn memory_for(alloc: Global, tokens: usize, octets: usize) -> Result<Option<Memo
     }
 }
 
-/// Remembers from now on so many tokens of so many octets of each way of judging. `FOW_OK`; `FOW_OUT_OF_MEMORY`: memory was refused,
+/// Remembers from now on so many tokens of so many octets. `FOW_OK`; `FOW_OUT_OF_MEMORY`: memory was refused,
 /// and nothing has changed.
 pub(crate) fn remember_state(alloc: Global, state: &mut State, tokens: usize, octets: usize) -> u32
     ensures remembers { result ≡ FOW_OK → IsRemembering tokens octets state.old state.new }
     ensures refused { result ≢ FOW_OK → result ≡ FOW_OUT_OF_MEMORY }
     ensures same { result ≢ FOW_OK → state.new ≡ state.old }
 {
-    let Ok(told) = memory_for(alloc, tokens, octets) else {
+    let Ok(memory) = memory_for(alloc, tokens, octets) else {
         return FOW_OUT_OF_MEMORY;
     };
-    let Ok(proved) = memory_for(alloc, tokens, octets) else {
-        return FOW_OUT_OF_MEMORY;
-    };
-    state.memory = told;
-    state.grounds.remember(proved);
+    state.grounds.remember(memory);
     FOW_OK
 }

@@ -14,24 +14,6 @@ use jwt_jws::FormFault;
 use jwt_policy::ClaimFault;
 use jwt_verify::{Fault, SigState, Try, Verdict};
 
-/// A question about a signature. In C `fow_question`.
-#[repr(C)]
-#[derive(Clone, Copy)]
-pub struct FowQuestion {
-    /// The algorithm, as `fow_alg` numbers it.
-    pub alg: u32,
-    /// The kind of the key with its curve, as `fow_kind` numbers it.
-    pub kind: u32,
-    /// How many octets the signing input has.
-    pub input: usize,
-    /// How many octets the signature has.
-    pub signature: usize,
-    /// How many octets the key's first member has.
-    pub first: usize,
-    /// How many octets the key's second member has.
-    pub second: usize,
-}
-
 /// What became of a signature. In C `fow_state`.
 #[repr(C)]
 #[derive(Clone, Copy)]
@@ -64,7 +46,7 @@ pub struct FowReport {
     pub work: u64,
     /// The number of tries.
     pub tries: u64,
-    /// 0 accepted, 1 refused, 2 asks about the pair, 3 out of memory, 4 nothing is held.
+    /// 0 accepted, 1 refused, 3 out of memory, 4 nothing is held.
     pub verdict: u32,
     /// Of a refusal the fault, as `fow_fault` numbers it.
     pub fault: u32,

@@ -2,10 +2,9 @@
 
 use crate::grounds::Grounds;
 use jwt_access::Moment;
-use jwt_memory::{Basis, Memory};
+use jwt_memory::Basis;
 use jwt_policy::Claims;
 use jwt_text::Scratch;
-use jwt_told::{Answers, OwnedQuestion};
 use jwt_verify::{SigState, Try};
 use std::sync::Arc;
 
@@ -31,22 +30,18 @@ pub enum Evidence {
 pub struct Last {
     pub(crate) evidence: Evidence,
     pub(crate) missing: Vec<u8>,
-    /// What it asks.
-    pub(crate) asked: Option<OwnedQuestion>,
     /// Whether it came out of a memory: then nothing was tried in it.
     pub(crate) remembered: bool,
     /// The moment of the verdict, and the policy's leeway.
     pub(crate) moment: Moment,
 }
 
-/// What a validator holds: documents, which those beside it hold too, with the memory of tokens that the proved verifiers accepted; the
-/// answers; the memory of tokens that were accepted by answers; what is kept of the last judging; and scratch memory for reading, whose
-/// contents affect nothing. The scratch is large, and so in a box of its own: a state is moved over the stack.
+/// What a validator holds: documents, which those beside it hold too, with a memory of tokens that were accepted; what is kept of the last
+/// judging; and scratch memory for reading, whose contents affect nothing. The scratch is large, and so in a box of its own: a state is moved over
+/// the stack.
 #[derive(Drop)]
 pub struct State {
     pub(crate) grounds: Grounds,
-    pub(crate) answers: Answers,
-    pub(crate) memory: Option<Memory>,
     pub(crate) last: Last,
     pub(crate) scratch: Box<Scratch>,
 }

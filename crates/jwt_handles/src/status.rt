@@ -4,8 +4,6 @@
 pub const FOW_OK: u32 = 0;
 /// Refused, for the fault that is named.
 pub const FOW_REFUSED: u32 = 1;
-/// Of a verdict: an answer on a signature is asked for.
-pub const FOW_ASKS: u32 = 2;
 /// Memory was refused.
 pub const FOW_OUT_OF_MEMORY: u32 = 3;
 /// Nothing is held.

@@ -1,27 +1,27 @@
 //! Judging a token, and what is kept of its report.
 
-ghost use Rattle.jwt_handles.specs.declared.status.TheConstants.{FOW_ABSENT, FOW_ASKS, FOW_NOT_OPEN, FOW_OK, FOW_OUT_OF_MEMORY, FOW_REFUSED};
+ghost use Rattle.jwt_handles.specs.declared.status.TheConstants.{FOW_ABSENT, FOW_NOT_OPEN, FOW_OK, FOW_OUT_OF_MEMORY, FOW_REFUSED};
 ghost use Rattle.std.specs.Prelude.{◌≡◌, ◌≢◌, ◌≤◌, IfSome, None, slice_get, IsUtf8, false};
 ghost use Rattle.jwt_handles.specs.Documents.{documents};
-ghost use Rattle.jwt_handles.specs.Reports.{IsAlike, IsAskedBy, IsJudgedBy, report_numbers};
+ghost use Rattle.jwt_handles.specs.Reports.{IsAlike, report_numbers};
 ghost use Rattle.jwt_handles.specs.Evidence.{states_kept, tries_kept, claims_kept, payload_kept, IsMomentBy};
 ghost use Rattle.jwt_handles.specs.Faults.{bare};
-ghost use Rattle.jwt_handles.specs.Keeping.{RemembersProved, RemembersTold};
+ghost use Rattle.jwt_handles.specs.Keeping.{RemembersProved};
 ghost use Rattle.jwt_handles.specs.Payloads.{KeepsPayloadBy};
 ghost use Rattle.jwt_handles.specs.Remembering.{Remembers};
 ghost use Rattle.jwt_handles.specs.Written.{PutsHeld, PutsName, IsState, IsTry, PutsSome, PutsNumber, claim_text_at, number_at};
 ghost use Rattle.jwt_handles.specs.Proving.{IsProvedBy};
 
 use crate::handle::{Handle, take};
-use crate::judging::judge_state;
-use crate::proving::prove_state;
+use crate::proving::judge_state;
 use crate::remembering::remember_state;
 use crate::report::{FowReport, FowState, FowTry};
 use crate::status::{FOW_ABSENT, FOW_NOT_OPEN, FOW_OK};
 use crate::writing::{number_at, put, put_claim};
 use std::alloc::Global;
 
-/// Judges a token at a moment, in seconds since 1970-01-01T00:00:00Z, and answers the verdict, which the report has too.
+/// Judges a token at a moment, in seconds since 1970-01-01T00:00:00Z, by the proved verifiers of RSA, ECDSA and Ed25519, and answers the
+/// verdict, which the report has too.
 pub fn judge(
     validator: &mut Handle,
     alloc: Global,
@@ -36,50 +36,8 @@ pub fn judge(
 
     // What is accepted or refused is judged by validate's contract, and what is kept of it is its report.
     ensures judged { IfSome validator.old.state (λ d. result ≤ FOW_REFUSED
-        → IsJudgedBy d now token.now report.new validator.new.state) }
-
-    // So is the moment, against which an access rule holds dates.
-    ensures moment { IfSome validator.old.state (λ d. IsMomentBy (documents d).policy now validator.new.state) }
-
-    // Claims are kept of an acceptance alone, and so are the octets of the payload, which are those of the token.
-    ensures claims { IfSome validator.new.state (λ e. result ≢ FOW_OK → claims_kept e.last ≡ None) }
-    ensures payload { IfSome validator.old.state (λ d. KeepsPayloadBy (documents d).policy token.now result validator.new.state) }
-
-    // It remembers nothing new but this token, where it is accepted: by the answers now, on which what it comes to later rests.
-    ensures remembers { IfSome validator.old.state (λ d. RemembersTold d token.now report.new validator.new.state) }
-
-    // The pair that is asked about is the first of the tries that has no answer. The tries are kept.
-    ensures asks { IfSome validator.old.state (λ d. result ≡ FOW_ASKS
-        → IsAskedBy d now token.now report.new validator.new.state) }
-{
-    let Some(mut state) = take(validator, alloc) else {
-        *report = FowReport::bare(FOW_NOT_OPEN);
-        return FOW_NOT_OPEN;
-    };
-    let said = judge_state(alloc, &mut state, token, now);
-    *report = said;
-    *validator = Handle::of(state);
-    said.verdict
-}
-
-/// Judges a token at a moment, in seconds since 1970-01-01T00:00:00Z, by the proved verifiers of RSA, ECDSA and Ed25519, and answers the
-/// verdict, which the report has too. It asks nothing, and the answers count for nothing.
-pub fn proved_judge(
-    validator: &mut Handle,
-    alloc: Global,
-    token: &[u8],
-    now: i64,
-    report: &mut FowReport,
-) -> u32
-    ensures verdict { result ≡ report.new.verdict }
-    ensures none { validator.old.state ≡ None → report_numbers report.new ≡ bare FOW_NOT_OPEN }
-    ensures open { validator.old.state ≢ None → result ≤ FOW_OUT_OF_MEMORY }
-    ensures alike { IsAlike validator.old.state validator.new.state }
-
-    // What is accepted or refused is judged by validate's contract, and what is kept of it is its report.
-    ensures judged { IfSome validator.old.state (λ d. result ≤ FOW_REFUSED
         → IsProvedBy d now token.now report.new validator.new.state) }
-    ensures never_asks { result ≢ FOW_ASKS }
+    ensures unused { result ≢ 2 }
 
     // So is the moment, against which an access rule holds dates.
     ensures moment { IfSome validator.old.state (λ d. IsMomentBy (documents d).policy now validator.new.state) }
@@ -95,14 +53,13 @@ pub fn proved_judge(
         *report = FowReport::bare(FOW_NOT_OPEN);
         return FOW_NOT_OPEN;
     };
-    let said = prove_state(alloc, &mut state, token, now);
+    let said = judge_state(alloc, &mut state, token, now);
     *report = said;
     *validator = Handle::of(state);
     said.verdict
 }
 
-/// Remembers from now on at most so many tokens of at most so many octets each that [`judge`] accepts, and as many that [`proved_judge`]
-/// does; none where `tokens` is 0. What was remembered is forgotten. `FOW_OK`; `FOW_OUT_OF_MEMORY`: memory was refused, and what was
+/// Remembers from now on at most so many tokens of at most so many octets each that [`judge`] accepts; none where `tokens` is 0. What was remembered is forgotten. `FOW_OK`; `FOW_OUT_OF_MEMORY`: memory was refused, and what was
 /// remembered stays; `FOW_NOT_OPEN`: nothing is held.
 pub fn remember(validator: &mut Handle, alloc: Global, tokens: usize, octets: usize) -> u32
     ensures none { validator.old.state ≡ None → (result ≡ FOW_NOT_OPEN) × (validator.new.state ≡ None) }

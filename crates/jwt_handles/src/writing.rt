@@ -7,11 +7,11 @@ ghost use Rattle.jwt_verify.specs.Verdict.{token_of};
 ghost use Rattle.jwt_handles.specs.Documents.{documents};
 ghost use Rattle.jwt_handles.specs.Written.{Puts, PutsPayload, PutsSome, claim_text_at, header_octets_at, number_at};
 
+use crate::reading::read_token;
 use crate::state::State;
 use crate::status::{FOW_ABSENT, FOW_OK, FOW_OUT_OF_MEMORY, FOW_TOO_SHORT};
 use jwt_policy::Claims;
 use jwt_text::{TextFault, decode};
-use jwt_told::read_token;
 use std::alloc::Global;
 use std::str::from_utf8;
 

@@ -5,8 +5,6 @@ use Rattle.jwt_mac.specs.declared.algorithm.Alg.{Alg}
 use Rattle.jwt_mac.specs.declared.message.Message.{Message}
 use Rattle.jwt_mac.specs.declared.key_view.EcCurve.{EcCurve}
 use Rattle.jwt_mac.specs.declared.key_view.EdCurve.{EdCurve}
-use Rattle.jwt_mac.specs.declared.key_view.EcCurve.TheVariants.{P256, P384, P521}
-use Rattle.jwt_mac.specs.declared.key_view.EdCurve.TheVariants.{Ed25519, Ed448}
 use Rattle.jwt_mac.specs.declared.key_view.KeyView.{KeyView}
 use Rattle.jwt_mac.specs.declared.key_view.KeyView.TheVariants.{Oct, Rsa, Ec, Okp}
 use Rattle.jwt_mac.specs.declared.owned_key.OwnedKey.{OwnedKey}
@@ -39,18 +37,6 @@ owned_octets octets (owned.Oct k) = OctKey (octets k)
 owned_octets octets (owned.Rsa n e) = RsaKey (octets n) (octets e)
 owned_octets octets (owned.Ec curve x y) = EcKey curve (octets x) (octets y)
 owned_octets octets (owned.Okp curve x) = OkpKey curve (octets x)
-
--- whether two curves are the same
-abbrev pub same_curve : EcCurve → EcCurve → Bool
-same_curve P256 P256 = true
-same_curve P384 P384 = true
-same_curve P521 P521 = true
-same_curve _ _ = false
-
-abbrev pub same_ed_curve : EdCurve → EdCurve → Bool
-same_ed_curve Ed25519 Ed25519 = true
-same_ed_curve Ed448 Ed448 = true
-same_ed_curve _ _ = false
 
 -- the octets that a message lends
 abbrev pub message_octets : Message → MessageOctets

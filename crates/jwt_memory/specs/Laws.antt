@@ -5,7 +5,6 @@ use Rattle.jwt_policy.specs.Checks.{check_of}
 use Rattle.jwt_verify.specs.declared.report.Report.{Report}
 use Rattle.jwt_verify.specs.declared.report.Verdict.{Verdict}
 use Rattle.jwt_verify.specs.declared.report.Verdict.TheVariants.{Accepted}
-use Rattle.jwt_verify.specs.Accepted.{IsVerdict}
 use Rattle.jwt_verify.specs.Reports.{IsReport}
 use Rattle.jwt_verify.specs.Verdict.{Terms, checked}
 
@@ -29,9 +28,3 @@ abbrev pub AcceptedEver : Type 0
 AcceptedEver = (terms : Terms) (octets : List ℕ) (ceiling signature key : ℕ) (claims : Members) (report : Report)
     → IsReport terms octets ceiling (with_verdict report (Accepted signature key claims))
     → (now : ℤ) → IsReport (at terms now) octets ceiling (with_verdict report (verdict_on (at terms now) signature key claims))
-
--- What is accepted at one moment has at every moment the verdict that its claims come to then.
-abbrev pub AcceptedVerdicts : Type 0
-AcceptedVerdicts = (terms : Terms) (octets : List ℕ) (ceiling signature key : ℕ) (claims : Members)
-    → IsVerdict terms octets ceiling (Accepted signature key claims)
-    → (now : ℤ) → IsVerdict (at terms now) octets ceiling (verdict_on (at terms now) signature key claims)

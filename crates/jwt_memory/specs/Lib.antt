@@ -12,5 +12,3 @@ pub mod Entries
 pub mod Outcomes
 -- the invariant of each token that a memory keeps
 pub mod Kept
--- what a report rests on, and each token that a memory keeps, where the caller checked its signatures
-pub mod ToldKept

@@ -67,10 +67,6 @@ abbrev pub IsFound : Bool → Memory → List ℕ → ℕ → Type 0
 IsFound false memory octets ceiling = Unit {0}
 IsFound true memory octets ceiling = (entry : MemoryEntry) × Holds memory entry × (entry.octets.items ≡ octets) × (entry.ceiling ≡ ceiling)
 
--- the memory holds nothing that it didn't before
-abbrev pub KeepsNone : Memory → Memory → Type 0
-KeepsNone before after = (entry : MemoryEntry) → Holds after entry → Holds before entry
-
 -- The memory holds nothing that it didn't before but these octets, accepted under this ceiling, where this report is their acceptance.
 abbrev pub KeepsOnly : List ℕ → ℕ → Report → Memory → Memory → Type 0
 KeepsOnly octets ceiling report before after = (entry : MemoryEntry) → Holds after entry

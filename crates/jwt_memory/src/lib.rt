@@ -5,8 +5,7 @@
 //! moment. The verdict is the one that [`jwt_verify::judge`] gives, by the same clauses.
 //!
 //! A memory is of one policy, one key set and one list of verifiers: `AreKept` of `specs/Kept.antt` says of each token that it holds
-//! that at every moment the report on it is what its claims come to then. [`Memory::judge_under`] hands out the payload too, and so does
-//! [`Memory::judge_told`], which is the same over [`jwt_told::judge_told`].
+//! that at every moment the report on it is what its claims come to then. [`Memory::judge_under`] hands out the payload too.
 #![tactic(auto)]
 
 mod handing;
@@ -14,9 +13,10 @@ mod judging;
 pub mod laws;
 mod memory;
 mod outcome;
-mod telling;
 mod under;
+mod unread;
 
 pub use judging::judge;
 pub use memory::{Basis, Memory, MemoryEntry};
 pub use outcome::{Handed, Outcome};
+pub use unread::untried;

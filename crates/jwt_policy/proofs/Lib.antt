@@ -12,6 +12,8 @@ pub mod PayloadLemmas
 pub mod MediaLemmas
 -- ---- For member_kinds.rt
 pub mod AllSome
+-- ---- For policy.rt
+pub mod CeilingLemmas
 -- ---- For several files
 pub mod ItemsLemmas
 -- ---- For other lemmas

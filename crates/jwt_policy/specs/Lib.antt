@@ -18,6 +18,8 @@ pub mod Checks
 pub mod MemberKinds
 -- the policy that a document says, or the first cause to refuse it
 pub mod Document
+-- the ceiling on tries of whoever opens documents once and judges many tokens by them
+pub mod Ceilings
 -- the names of faults
 pub mod FaultNames
 -- the laws of the tables, in words

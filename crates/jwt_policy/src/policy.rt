@@ -1,6 +1,8 @@
 //! A policy: what a service asks of the tokens that it takes.
 
 ghost use Rattle.std.specs.Prelude.{◌≡◌, ◌≤◌, IfSome, length, map, option_map, string_bytes};
+ghost use Rattle.std.specs.List.{list_any};
+ghost use Rattle.jwt_policy.specs.Ceilings.{has_public_keys, ceiling_of, with_ceiling};
 ghost use Rattle.jwt_text.specs.declared.limits.TheConstants.{LONGEST_TOKEN};
 
 use crate::mode::Mode;
@@ -136,7 +138,58 @@ impl Model for Policy {
     ghost invariant = { λ p. IfSome p.max_calls (λ n. n ≤ 32768) };
 }
 
+/// The most tries of a run under a policy that names no `max_calls` of its own, for whoever opens documents once and judges many
+/// tokens by them.
+pub const MOST_CALLS: u32 = 64;
+
+/// Whether one of the algorithms has public keys.
+#[tactic(auto, using(std::proofs::lemmas::List::at_drop_more, std::proofs::lemmas::List::at_drop_all))]
+fn some_has_public_keys(algs: &[Alg]) -> bool
+    ensures { result ≡ list_any has_public_keys algs.now }
+{
+    for alg in algs {
+        if !alg.is_hmac() {
+            return true;
+        }
+    }
+    false
+}
+
+/// The ceiling on the tries of a run, where this one is named, and an algorithm may be allowed that has public keys.
+fn ceiling_of(named: Option<u32>, public: bool) -> Option<u32>
+    ensures { result ≡ ceiling_of named public }
+{
+    match named {
+        Some(calls) => Some(calls),
+        None if public => Some(MOST_CALLS),
+        None => None,
+    }
+}
+
 impl Policy {
+    /// This policy, with a ceiling of [`MOST_CALLS`] tries where it names none and allows an algorithm whose keys are public: each
+    /// try by such a key takes tens of microseconds, and one token can ask for as many as its signatures times the keys. A
+    /// `max_calls` of the policy's own stays, a greater one too.
+    #[tactic(auto, using(crate::proofs::CeilingLemmas::stays))]
+    pub fn with_ceiling(self) -> Policy
+        ensures value { result ≡ with_ceiling self }
+        ensures stays { with_ceiling result ≡ result }
+    {
+        let public = some_has_public_keys(self.algs());
+        let Policy {
+            run,
+            header,
+            claims,
+            max_calls,
+        } = self;
+        Policy {
+            run,
+            header,
+            claims,
+            max_calls: ceiling_of(max_calls, public),
+        }
+    }
+
     /// The version of the document, 1 or 2. By default 1.
     pub fn version(&self) -> u32
         ensures value { result ≡ self.now.run.version }

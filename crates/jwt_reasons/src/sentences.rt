@@ -60,7 +60,7 @@ pub(crate) const REFUSALS: [(&str, &str); 42] = [
     ),
     (
         "CallsExceeded",
-        "there were as many tries as the policy's `max_calls`. Raise `max_calls`, or give keys a `kid` and set `need_kid`, so that few keys are tried.",
+        "there were as many tries as the policy's `max_calls`, or 64 where it names none. Raise `max_calls`, or give keys a `kid` and set `need_kid`, so that few keys are tried.",
     ),
     (
         "AlgMissing",
@@ -80,7 +80,7 @@ pub(crate) const REFUSALS: [(&str, &str); 42] = [
     ),
     (
         "NoVerifier",
-        "no verifier names `alg`. On the command line add `--public-keys`. In Rattle hand in a verifier. Ed448 is verified by OpenSSL alone.",
+        "no verifier names `alg`. On the command line add `--public-keys`. In Rattle hand in a verifier.",
     ),
     (
         "KeyUrl",

@@ -18,7 +18,8 @@
 //! secret: nothing is promised of time.
 #![tactic(auto)]
 
-pub use verifier::{Pkcs1, Pss, Rsa};
+pub use verifier::{Pkcs1, PreparedRsa, Pss, Rsa};
+pub use verifying::verifies;
 
 mod digest;
 mod hash;
@@ -26,3 +27,4 @@ mod pkcs1;
 mod pss;
 mod public_key;
 pub mod verifier;
+mod verifying;

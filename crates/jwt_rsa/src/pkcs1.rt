@@ -5,7 +5,7 @@ ghost use Rattle.jwt_mac.specs.Hmac.{all_octets};
 ghost use Rattle.jwt_rsa.specs.Pkcs1.{framed, encoded_message, pkcs1_accepts};
 
 use crate::hash::Hash;
-use crate::public_key::PublicKey;
+use crate::public_key::{KeyOctets, PublicKey};
 use rsa_number::MOST_OCTETS;
 
 /// What stands before an end, if octets end so.
@@ -53,10 +53,10 @@ fn is_encoded(em: &[u8], info: &[u8], digest: &[u8]) -> bool
 
 /// RSASSA-PKCS1-V1_5-VERIFY (RFC 8017, section 8.2.2), of the octets that the parts make, joined.
 #[tactic(auto, unfolding(crate::specs::Pkcs1::pkcs1_accepts))]
-pub fn accepts(hash: Hash, n: &[u8], e: &[u8], parts: [&[u8]; 3], signature: &[u8]) -> bool
-    ensures { result ≡ pkcs1_accepts hash n.now e.now (all_octets parts.entry) signature.now }
+pub fn accepts(hash: Hash, key: KeyOctets, parts: [&[u8]; 3], signature: &[u8]) -> bool
+    ensures { result ≡ pkcs1_accepts hash key.entry.n.now key.entry.e.now (all_octets parts.entry) signature.now }
 {
-    let Some(key) = PublicKey::of(n, e) else {
+    let Some(key) = PublicKey::of(key.n, key.e, key.prepared) else {
         return false;
     };
     let mut room = [0u8; MOST_OCTETS];

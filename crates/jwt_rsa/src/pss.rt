@@ -8,7 +8,7 @@ ghost use Rattle.rsa_number.specs.Octets.{i2osp};
 
 use crate::hash::Hash;
 use crate::pkcs1::before;
-use crate::public_key::PublicKey;
+use crate::public_key::{KeyOctets, PublicKey};
 use rsa_number::{MOST_OCTETS, Modulus};
 
 /// Xors octets with a digest's first.
@@ -105,10 +105,10 @@ fn represents(hash: Hash, n: &Modulus, m_hash: &[u8], em: &[u8]) -> bool
 
 /// RSASSA-PSS-VERIFY (RFC 8017, section 8.1.2), of the octets that the parts make, joined.
 #[tactic(auto, unfolding(crate::specs::Pss::pss_accepts))]
-pub fn accepts(hash: Hash, n: &[u8], e: &[u8], parts: [&[u8]; 3], signature: &[u8]) -> bool
-    ensures { result ≡ pss_accepts hash n.now e.now (all_octets parts.entry) signature.now }
+pub fn accepts(hash: Hash, key: KeyOctets, parts: [&[u8]; 3], signature: &[u8]) -> bool
+    ensures { result ≡ pss_accepts hash key.entry.n.now key.entry.e.now (all_octets parts.entry) signature.now }
 {
-    let Some(key) = PublicKey::of(n, e) else {
+    let Some(key) = PublicKey::of(key.n, key.e, key.prepared) else {
         return false;
     };
     let mut room = [0u8; MOST_OCTETS];

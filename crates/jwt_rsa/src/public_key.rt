@@ -5,7 +5,15 @@ ghost use Rattle.std.specs.Bool.{OnTrue};
 ghost use Rattle.rsa_number.specs.Octets.{os2ip, i2osp, without_zeros};
 ghost use Rattle.jwt_rsa.specs.PublicKey.{is_key, rsavp1};
 
-use rsa_number::{MOST_OCTETS, Modulus, number};
+use rsa_number::{MOST_OCTETS, Modulus, PreparedModulus, number};
+
+/// The octets of a key, and what was prepared of keys.
+#[derive(Clone, Copy)]
+pub struct KeyOctets<'a> {
+    pub n: &'a [u8],
+    pub e: &'a [u8],
+    pub prepared: &'a [PreparedModulus],
+}
 
 // A public key that is taken: the one test of what a key may be.
 #[derive(Drop)]
@@ -17,12 +25,12 @@ pub struct PublicKey<'a> {
 }
 
 impl<'a> PublicKey<'a> {
-    /// The key of these octets, which zeros may lead; None exactly where it isn't taken.
-    pub fn of(n: &'a [u8], e: &[u8]) -> Option<PublicKey<'a>>
+    /// The key of these octets, which zeros may lead, with what was prepared of its modulus; None exactly where it isn't taken.
+    pub fn of(n: &'a [u8], e: &[u8], prepared: &'a [PreparedModulus]) -> Option<PublicKey<'a>>
         ensures { SomeIff result (IsTrue (is_key (os2ip n.now) (os2ip e.now)))
             (record { n = without_zeros n.now; e = os2ip e.now }) }
     {
-        let n = Modulus::of(n)?;
+        let n = Modulus::of(n)?.prepared_by(prepared);
         let e = number(e)?;
         if e >= 3 && e % 2 == 1 {
             Some(PublicKey { n, e })

@@ -1,12 +1,15 @@
 //! Verifiers for RSA signatures.
 
-ghost use Rattle.std.specs.Prelude.{◌≡◌, false};
+ghost use Rattle.std.specs.Prelude.{◌≡◌, ◌≤◌, ◌+◌, false};
 ghost use Rattle.jwt_mac.specs.Verifying.{AnswersBy, key_octets, message_octets, signing_input};
 ghost use Rattle.jwt_rsa.specs.Meanings.{names_rs, names_ps, accepts_rs, accepts_ps};
+ghost use Rattle.jwt_rsa.specs.Held.{prepared_number, room};
 
-use crate::hash::Hash;
-use crate::{pkcs1, pss};
+use crate::public_key::KeyOctets;
+use crate::verifying;
 use jwt_mac::{Alg, Answer, KeyView, Message, Verifier};
+use rsa_number::{Modulus, PreparedModulus};
+use std::alloc::Global;
 
 /// Whether it is RS256, RS384 or RS512.
 fn is_rs(alg: Alg) -> bool
@@ -23,7 +26,13 @@ fn is_ps(alg: Alg) -> bool
 }
 
 /// Whether a signature by RS256, RS384 or RS512 is accepted.
-fn is_accepted_rs(alg: Alg, key: &KeyView, message: Message, signature: &[u8]) -> bool
+fn is_accepted_rs(
+    alg: Alg,
+    key: &KeyView,
+    message: Message,
+    signature: &[u8],
+    prepared: &[PreparedModulus],
+) -> bool
     ensures { result
         ≡ accepts_rs alg (key_octets key.now) (signing_input (message_octets message.entry))
         signature.now }
@@ -31,16 +40,18 @@ fn is_accepted_rs(alg: Alg, key: &KeyView, message: Message, signature: &[u8]) -
     let KeyView::Rsa { n, e } = key else {
         return false;
     };
-    match alg {
-        Alg::RS256 => pkcs1::accepts(Hash::Sha256, n, e, message.parts(), signature),
-        Alg::RS384 => pkcs1::accepts(Hash::Sha384, n, e, message.parts(), signature),
-        Alg::RS512 => pkcs1::accepts(Hash::Sha512, n, e, message.parts(), signature),
-        _ => false,
-    }
+    let key = KeyOctets { n, e, prepared };
+    verifying::is_accepted_rs(alg, key, message.parts(), signature)
 }
 
 /// Whether a signature by PS256, PS384 or PS512 is accepted.
-fn is_accepted_ps(alg: Alg, key: &KeyView, message: Message, signature: &[u8]) -> bool
+fn is_accepted_ps(
+    alg: Alg,
+    key: &KeyView,
+    message: Message,
+    signature: &[u8],
+    prepared: &[PreparedModulus],
+) -> bool
     ensures { result
         ≡ accepts_ps alg (key_octets key.now) (signing_input (message_octets message.entry))
         signature.now }
@@ -48,12 +59,8 @@ fn is_accepted_ps(alg: Alg, key: &KeyView, message: Message, signature: &[u8]) -
     let KeyView::Rsa { n, e } = key else {
         return false;
     };
-    match alg {
-        Alg::PS256 => pss::accepts(Hash::Sha256, n, e, message.parts(), signature),
-        Alg::PS384 => pss::accepts(Hash::Sha384, n, e, message.parts(), signature),
-        Alg::PS512 => pss::accepts(Hash::Sha512, n, e, message.parts(), signature),
-        _ => false,
-    }
+    let key = KeyOctets { n, e, prepared };
+    verifying::is_accepted_ps(alg, key, message.parts(), signature)
 }
 
 /// What is said of a signature.
@@ -84,8 +91,8 @@ impl Verifier for Rsa {
 
     fn verify(&self, alg: Alg, key: &KeyView, message: Message, signature: &[u8]) -> Answer {
         answer(
-            is_accepted_rs(alg, key, message, signature)
-                || is_accepted_ps(alg, key, message, signature),
+            is_accepted_rs(alg, key, message, signature, &[])
+                || is_accepted_ps(alg, key, message, signature, &[]),
         )
     }
 }
@@ -109,7 +116,7 @@ impl Verifier for Pkcs1 {
     }
 
     fn verify(&self, alg: Alg, key: &KeyView, message: Message, signature: &[u8]) -> Answer {
-        answer(is_accepted_rs(alg, key, message, signature))
+        answer(is_accepted_rs(alg, key, message, signature, &[]))
     }
 }
 
@@ -130,6 +137,67 @@ impl Verifier for Pss {
     }
 
     fn verify(&self, alg: Alg, key: &KeyView, message: Message, signature: &[u8]) -> Answer {
-        answer(is_accepted_ps(alg, key, message, signature))
+        answer(is_accepted_ps(alg, key, message, signature, &[]))
+    }
+}
+
+/// [`Rsa`], and some keys prepared: a signature by one of these takes a tenth less.
+///
+/// Its answers are those of [`Rsa`], whatever is prepared. A key is found by the octets of its modulus, compared to their end.
+#[derive(Drop)]
+pub struct PreparedRsa {
+    moduli: Vec<PreparedModulus>,
+    left: usize,
+}
+
+impl PreparedRsa {
+    /// No key yet, and room for at most so many. It takes no memory.
+    pub fn new(alloc: Global, most: usize) -> PreparedRsa
+        ensures none { prepared_number result ≡ 0 }
+        ensures room { room result ≡ most }
+    {
+        PreparedRsa {
+            moduli: Vec::new(alloc),
+            left: most,
+        }
+    }
+
+    /// Prepares an RSA key beside the others. Any other key, one that isn't taken, one more than `most`, and one for which memory is refused is
+    /// left unprepared. It takes some 2 KiB.
+    pub fn prepare(&mut self, key: &KeyView)
+        ensures few { prepared_number self.new ≤ prepared_number self.old + 1 }
+        ensures room { prepared_number self.new + room self.new ≡ prepared_number self.old + room self.old }
+    {
+        let left = self.left;
+        if left == 0 {
+            return;
+        }
+        let KeyView::Rsa { n, .. } = key else {
+            return;
+        };
+        let Some(modulus) = Modulus::of(n) else {
+            return;
+        };
+        if self.moduli.push(modulus.prepare()).is_ok() {
+            self.left = left - 1;
+        }
+    }
+}
+
+impl Verifier for PreparedRsa {
+    ghost use Rattle.jwt_rsa.specs.Meanings.{rsa_meaning};
+
+    ghost meaning = { λ _. rsa_meaning };
+
+    fn names(&self, alg: Alg) -> bool {
+        is_rs(alg) || is_ps(alg)
+    }
+
+    fn verify(&self, alg: Alg, key: &KeyView, message: Message, signature: &[u8]) -> Answer {
+        let prepared = self.moduli.as_slice();
+        answer(
+            is_accepted_rs(alg, key, message, signature, prepared)
+                || is_accepted_ps(alg, key, message, signature, prepared),
+        )
     }
 }

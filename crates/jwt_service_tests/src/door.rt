@@ -28,11 +28,7 @@ fn said(
     let keys = KeySet::read(alloc, keys.as_bytes())?;
     let mut verifiers: Vec<Box<dyn Verifier>> = Vec::new(alloc);
     verifiers.push(Box::new(alloc, Rsa)?)?;
-    let validator = Validator {
-        policy,
-        keys,
-        verifiers,
-    };
+    let validator = Validator::new(policy, keys, verifiers);
     let mut source = Reader::new(token.as_bytes());
     let mut budget = validator.policy.budget();
     let read = validator.validate(alloc, &mut source, now, &mut budget);

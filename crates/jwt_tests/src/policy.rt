@@ -1,10 +1,10 @@
 //! Policies, bars, eligible pairs and claims.
 use jwt_jws::parse;
 use jwt_keys::Key;
-use jwt_mac::{Alg, Verifier};
+use jwt_mac::Verifier;
 use jwt_policy::{
-    Audience, ClaimFault, Claims, Mode, Policy, PolicyFault, SigFault, alg_or_bar, bar, check,
-    eligible, fits, known_alg,
+    ClaimFault, Claims, Policy, PolicyFault, SigFault, alg_or_bar, bar, check, eligible, fits,
+    known_alg,
 };
 use jwt_support::examples::{HS256, key_set};
 use jwt_support::texts::nested;
@@ -52,69 +52,21 @@ fn refusal(alloc: Global, document: &[u8]) -> Result<String, Fail> {
 }
 
 /// Documents, and what is said of each: `read`, or the fault with the member that it names.
-static DOCUMENTS: [(&str, &str); 39] = [
-    ("", "Json"),
+static DOCUMENTS: [(&str, &str); 13] = [
     ("[]", "Json"),
-    (r#"[{"a":1,"a":2}]"#, "Json"),
     (r#"{"zz":1,"zz":2}"#, "NameTwice"),
     ("{}", "NoAlgorithm"),
     (r#"{"algs":[]}"#, "NoAlgorithm"),
-    (r#"{"mode":7}"#, "NoAlgorithm"),
-    (r#"{"zz":1}"#, "Member zz"),
     (r#"{"algs":["HS256"],"exp":1}"#, "Member exp"),
-    // Byte order isn't the order of UTF-16: U+FFEE comes before U+1F511.
-    (r#"{"\ud83d\udd11":1,"\uffee":1}"#, "Member \u{ffee}"),
-    (r#"{"algs":null}"#, "Member algs"),
-    (r#"{"algs":"HS256"}"#, "Member algs"),
-    (r#"{"algs":[1,"none"]}"#, "Member algs"),
     (r#"{"algs":["none"]}"#, "Range algs"),
-    (r#"{"algs":["HS256","hs256"]}"#, "Range algs"),
-    (r#"{"version":3}"#, "Range version"),
-    (r#"{"version":1.0,"algs":[]}"#, "Member version"),
-    (r#"{"algs":["HS256"],"mode":"Any"}"#, "Range mode"),
-    (r#"{"algs":["HS256"],"limit":0,"mode":7}"#, "Member mode"),
-    (r#"{"algs":["HS256"],"limit":0}"#, "Range limit"),
-    (r#"{"algs":["HS256"],"limit":1048577}"#, "Range limit"),
-    (
-        r#"{"algs":["HS256"],"work":9223372036854775807}"#,
-        "Range work",
-    ),
-    (
-        r#"{"algs":["HS256"],"work":9223372036854775808}"#,
-        "Member work",
-    ),
-    (
-        r#"{"algs":["HS256"],"max_signatures":33}"#,
-        "Range max_signatures",
-    ),
-    (r#"{"algs":["HS256"],"line_feed":1}"#, "Member line_feed"),
-    (r#"{"algs":["HS256"],"typ":""}"#, "Range typ"),
-    (
-        r#"{"algs":["HS256"],"understood":["b64"]}"#,
-        "Range understood",
-    ),
-    (
-        r#"{"algs":["HS256"],"understood":["x","crit"]}"#,
-        "Range understood",
-    ),
-    (
-        r#"{"algs":["HS256"],"understood":["crit",7]}"#,
-        "Member understood",
-    ),
     (r#"{"algs":["HS256"],"leeway":86401}"#, "Range leeway"),
     (r#"{"algs":["HS256"],"leeway":-1}"#, "Range leeway"),
     (r#"{"algs":["HS256"],"leeway":1.5}"#, "Member leeway"),
-    (r#"{"algs":["HS256"],"max_age":0}"#, "Range max_age"),
     (r#"{"version":3,"algs":["HS256"]}"#, "Range version"),
     (r#"{"algs":["HS256"],"max_calls":1}"#, "Member max_calls"),
-    (r#"{"version":"2","max_calls":1}"#, "Member max_calls"),
     (
         r#"{"version":2,"algs":["HS256"],"max_calls":32769}"#,
         "Range max_calls",
-    ),
-    (
-        r#"{"version":2,"algs":["HS256","HS256","EdDSA"],"max_calls":0}"#,
-        "read",
     ),
     (FULL, "read"),
 ];
@@ -144,100 +96,6 @@ fn a_document_has_at_most_65536_octets(rt: HostRuntime) -> Result<(), Fail> {
     document.push(b' ')?;
     assert_eq!(rt; refusal(alloc, &document)?.as_str(), "TooLong");
     Ok(())
-}
-
-/// The numbers of a policy: its version, `limit`, `work`, `max_signatures` and `leeway`.
-fn numbers_of(policy: &Policy) -> (u32, u32, u64, u32, u32) {
-    (
-        policy.version(),
-        policy.limit(),
-        policy.work(),
-        policy.max_signatures(),
-        policy.leeway(),
-    )
-}
-
-/// Whether mode, `typ`, line feed and what is asked of `kid` are the defaults.
-fn has_default_words(policy: &Policy) -> bool {
-    policy.mode() == Mode::Any
-        && policy.typ().is_none()
-        && !policy.line_feed()
-        && !policy.need_kid()
-        && !policy.thumb_kid()
-}
-
-/// Whether there is no greatest age and no ceiling on calls.
-fn has_no_bounds(policy: &Policy) -> bool {
-    policy.max_age().is_none() && policy.max_calls().is_none()
-}
-
-/// Whether no extension, issuer, audience or required claim is named.
-fn has_no_lists(policy: &Policy) -> bool {
-    policy.understood().is_empty()
-        && policy.issuers().is_empty()
-        && policy.audiences().is_empty()
-        && policy.required().is_empty()
-}
-
-/// Whether a policy that says nothing but its algorithms has the defaults.
-fn has_defaults(alloc: Global) -> bool {
-    match Policy::read(alloc, HS256.as_bytes()) {
-        Ok(policy) => {
-            numbers_of(&policy) == (1, 8192, 1_048_576, 8, 0)
-                && has_default_words(&policy)
-                && has_no_bounds(&policy)
-                && has_no_lists(&policy)
-        }
-        Err(_) => false,
-    }
-}
-
-/// A policy of `algs` alone has the default in each other place.
-#[test]
-fn a_policy_has_its_defaults(rt: HostRuntime) {
-    assert!(rt; has_defaults(rt.alloc()));
-}
-
-/// Whether algorithms, mode, `typ`, line feed and what is asked of `kid` are what the full document says.
-fn has_full_words(policy: &Policy) -> bool {
-    policy.algs() == [Alg::EdDSA, Alg::HS512].as_slice()
-        && policy.mode() == Mode::All
-        && policy.typ() == Some("JWT")
-        && policy.line_feed()
-        && policy.need_kid()
-        && policy.thumb_kid()
-}
-
-/// Whether the greatest age and the ceiling on calls are what the full document says.
-fn has_full_bounds(policy: &Policy) -> bool {
-    policy.max_age() == Some(4_294_967_295) && policy.max_calls() == Some(32_768)
-}
-
-/// Whether issuers, audiences, types and required claims are what the full document says.
-fn has_full_lists(policy: &Policy) -> bool {
-    policy.issuers().len() == 2
-        && policy.understood().len() == 1
-        && policy.audiences().len() == 1
-        && policy.required().len() == 1
-}
-
-/// Whether the policy of [`FULL`] says what the document says.
-fn has_all(alloc: Global) -> bool {
-    match Policy::read(alloc, FULL.as_bytes()) {
-        Ok(policy) => {
-            numbers_of(&policy) == (2, 1_048_576, 0, 32, 86_400)
-                && has_full_words(&policy)
-                && has_full_bounds(&policy)
-                && has_full_lists(&policy)
-        }
-        Err(_) => false,
-    }
-}
-
-/// A policy of every member tells each of them.
-#[test]
-fn a_policy_says_what_its_document_says(rt: HostRuntime) {
-    assert!(rt; has_all(rt.alloc()));
 }
 
 // ---- headers
@@ -289,22 +147,9 @@ const RS256: &str = r#"{"algs":["RS256"]}"#;
 /// A policy that asks for a type.
 const TYPED: &str = r#"{"algs":["HS256"],"typ":"at+jwt"}"#;
 
-/// A policy that understands one extension.
-const UNDERSTANDS: &str = r#"{"algs":["HS256"],"understood":["x"]}"#;
-
-/// A policy that asks for a `kid`.
-const WITH_KID: &str = r#"{"algs":["HS256"],"need_kid":true}"#;
-
 /// A policy, the protected and the unprotected header of a signature, and its bar.
-static BARS: [(&str, &str, &str, Option<SigFault>); 34] = [
+static BARS: [(&str, &str, &str, Option<SigFault>); 12] = [
     (HS256, r#"{"alg":"HS256"}"#, "", None),
-    (
-        HS256,
-        "{}",
-        r#"{"alg":"HS256"}"#,
-        Some(SigFault::AlgMissing),
-    ),
-    (HS256, r#"{"alg":7}"#, "", Some(SigFault::AlgMissing)),
     (HS256, r#"{"alg":"none"}"#, "", Some(SigFault::AlgNone)),
     (HS256, r#"{"alg":"hs256"}"#, "", Some(SigFault::AlgUnknown)),
     (
@@ -313,31 +158,7 @@ static BARS: [(&str, &str, &str, Option<SigFault>); 34] = [
         "",
         Some(SigFault::AlgNotAllowed),
     ),
-    (
-        HS256,
-        r#"{"alg":"RS256"}"#,
-        "",
-        Some(SigFault::AlgNotAllowed),
-    ),
     (RS256, r#"{"alg":"RS256"}"#, "", Some(SigFault::NoVerifier)),
-    (
-        HS256,
-        r#"{"alg":"HS256"}"#,
-        r#"{"jku":null}"#,
-        Some(SigFault::KeyUrl),
-    ),
-    (
-        HS256,
-        r#"{"alg":"HS256","crit":["x"],"x":1,"x5u":""}"#,
-        "",
-        Some(SigFault::KeyUrl),
-    ),
-    (
-        HS256,
-        r#"{"alg":"HS256","enc":1,"b64":true}"#,
-        "",
-        Some(SigFault::EncHeader),
-    ),
     (
         HS256,
         r#"{"alg":"HS256","crit":["b64"],"b64":false}"#,
@@ -346,19 +167,7 @@ static BARS: [(&str, &str, &str, Option<SigFault>); 34] = [
     ),
     (
         HS256,
-        r#"{"alg":"HS256","crit":["b64"]}"#,
-        "",
-        Some(SigFault::CritShape),
-    ),
-    (
-        HS256,
         r#"{"alg":"HS256","crit":[]}"#,
-        "",
-        Some(SigFault::CritShape),
-    ),
-    (
-        HS256,
-        r#"{"alg":"HS256","crit":null}"#,
         "",
         Some(SigFault::CritShape),
     ),
@@ -375,57 +184,8 @@ static BARS: [(&str, &str, &str, Option<SigFault>); 34] = [
         Some(SigFault::CritShape),
     ),
     (
-        UNDERSTANDS,
-        r#"{"alg":"HS256","crit":["x","x"],"x":1}"#,
-        "",
-        Some(SigFault::CritShape),
-    ),
-    (
-        UNDERSTANDS,
-        r#"{"alg":"HS256"}"#,
-        r#"{"crit":["x"],"x":1}"#,
-        Some(SigFault::CritShape),
-    ),
-    (
-        UNDERSTANDS,
-        r#"{"alg":"HS256","crit":["x"]}"#,
-        r#"{"x":1}"#,
-        None,
-    ),
-    (
-        HS256,
-        r#"{"alg":"HS256","crit":["x"],"x":1}"#,
-        "",
-        Some(SigFault::CritUnknown),
-    ),
-    (
-        HS256,
-        r#"{"alg":"HS256","typ":null}"#,
-        "",
-        Some(SigFault::TypShape),
-    ),
-    (
-        HS256,
-        r#"{"alg":"HS256","cty":7}"#,
-        r#"{"typ":7}"#,
-        Some(SigFault::TypShape),
-    ),
-    (HS256, r#"{"alg":"HS256"}"#, r#"{"typ":7}"#, None),
-    (
-        TYPED,
-        r#"{"alg":"HS256"}"#,
-        r#"{"typ":"at+jwt"}"#,
-        Some(SigFault::TypMismatch),
-    ),
-    (
         TYPED,
         r#"{"alg":"HS256","typ":"JWT"}"#,
-        "",
-        Some(SigFault::TypMismatch),
-    ),
-    (
-        TYPED,
-        r#"{"alg":"HS256","typ":"at+jwt; x=1"}"#,
         "",
         Some(SigFault::TypMismatch),
     ),
@@ -441,26 +201,6 @@ static BARS: [(&str, &str, &str, Option<SigFault>); 34] = [
         "",
         Some(SigFault::Nested),
     ),
-    (
-        HS256,
-        r#"{"alg":"HS256","cty":"APPLICATION/JWT"}"#,
-        "",
-        Some(SigFault::Nested),
-    ),
-    (HS256, r#"{"alg":"HS256","cty":"jwt/"}"#, "", None),
-    (
-        HS256,
-        r#"{"alg":"HS256"}"#,
-        r#"{"kid":null}"#,
-        Some(SigFault::KidShape),
-    ),
-    (
-        WITH_KID,
-        r#"{"alg":"HS256"}"#,
-        "",
-        Some(SigFault::KidMissing),
-    ),
-    (WITH_KID, r#"{"alg":"HS256"}"#, r#"{"kid":""}"#, None),
 ];
 
 /// Asserts that each signature has its bar.
@@ -540,46 +280,17 @@ const OF_RSA: &str = r#"{"kid":"NzbLsXh8uDCcd-6MNwXF4W_7noWXFZAfHkxZsRGC9Xs"}"#;
 const SHORT: &str = r#"{"kty":"oct","k":"eW91ci0yNTYtYml0LXNlY3JldA""#;
 
 /// A policy, the two headers of a signature, a key and more members of it, and whether the key is eligible.
-static PAIRS: [(&str, &str, &str, &str, &str, bool); 18] = [
+static PAIRS: [(&str, &str, &str, &str, &str, bool); 10] = [
     (HS256, BY_HS256, "", SECRET, "", true),
     (HS256, BY_HS256, "", SHORT, "", false),
-    (TWO, BY_HS256, "", RSA, "", false),
-    (TWO, BY_RS256, "", SECRET, "", false),
     (TWO, BY_RS256, "", RSA, "", true),
-    (HS256, BY_RS256, "", RSA, "", false),
     (HS256, BY_HS256, "", SECRET, r#","alg":"HS384""#, false),
-    (
-        HS256,
-        BY_HS256,
-        "",
-        SECRET,
-        r#","alg":"HS256","use":"sig","key_ops":["sign","verify"]"#,
-        true,
-    ),
     (HS256, BY_HS256, "", SECRET, r#","use":"enc""#, false),
     (HS256, BY_HS256, "", SECRET, r#","key_ops":["sign"]"#, false),
-    (
-        HS256,
-        BY_HS256,
-        r#"{"kid":"x"}"#,
-        SECRET,
-        r#","kid":"x""#,
-        true,
-    ),
-    (
-        HS256,
-        BY_HS256,
-        r#"{"kid":"x"}"#,
-        SECRET,
-        r#","kid":"y""#,
-        false,
-    ),
     (HS256, BY_HS256, r#"{"kid":"x"}"#, SECRET, "", false),
     (HS256, BY_HS256, "", SECRET, r#","kid":"y""#, true),
     (TWO, BY_RS256, OF_RSA, RSA, "", false),
     (BY_THUMBPRINT, BY_RS256, OF_RSA, RSA, "", true),
-    (BY_THUMBPRINT, BY_RS256, OF_RSA, RSA, r#","kid":"x""#, false),
-    (BY_THUMBPRINT, BY_RS256, r#"{"kid":"x"}"#, RSA, "", false),
 ];
 
 /// Asserts that each key is eligible, or isn't.
@@ -647,34 +358,14 @@ const MOST: &str = r#"{"algs":["HS256"],"leeway":86400}"#;
 /// A policy that asks for an age.
 const AGED: &str = r#"{"algs":["HS256"],"max_age":10}"#;
 
-/// A policy that asks for three claims and for an age.
-const ASKS: &str = r#"{"algs":["HS256"],"required":["sub","iat","jti"],"max_age":10}"#;
-
-/// A policy that names an issuer.
-const ISSUED: &str = r#"{"algs":["HS256"],"issuers":["ann"]}"#;
-
-/// A policy that names two audiences.
-const API: &str = r#"{"algs":["HS256"],"audiences":["b","api"]}"#;
-
 /// A policy, claims, the moment, and what is said of the claims: `none`, or the fault with the claim that it names.
-static CLAIMS: [(&str, &str, i64, &str); 33] = [
+static CLAIMS: [(&str, &str, i64, &str); 18] = [
     (HS256, "{}", 0, "none"),
     (HS256, "[]", 0, "ClaimsShape"),
     (HS256, r#"{"a":1,"a":1}"#, 0, "ClaimsShape"),
-    (HS256, r#"{"iss":7,"sub":7}"#, 0, "ClaimKind iss"),
-    (
-        HS256,
-        r#"{"iss":"a","exp":1.0,"nbf":"x"}"#,
-        0,
-        "ClaimDate exp",
-    ),
     (HS256, r#"{"exp":"1"}"#, 0, "ClaimKind exp"),
     (HS256, r#"{"exp":1e3}"#, 0, "ClaimDate exp"),
     (HS256, r#"{"exp":9223372036854775808}"#, 0, "ClaimDate exp"),
-    (HS256, r#"{"nbf":null}"#, 0, "ClaimKind nbf"),
-    (HS256, r#"{"iat":-0}"#, 0, "ClaimDate iat"),
-    (HS256, r#"{"jti":[]}"#, 0, "ClaimKind jti"),
-    (HS256, r#"{"aud":["a",7]}"#, 0, "ClaimKind aud"),
     (HS256, r#"{"exp":100}"#, 99, "none"),
     (HS256, r#"{"exp":100}"#, 100, "Expired"),
     (LENIENT, r#"{"exp":100}"#, 100, "none"),
@@ -684,21 +375,7 @@ static CLAIMS: [(&str, &str, i64, &str); 33] = [
     (AGED, r#"{"iat":100}"#, 110, "none"),
     (AGED, r#"{"iat":100}"#, 111, "TooOld"),
     (AGED, "{}", 0, "ClaimMissing iat"),
-    (ASKS, "{}", 0, "ClaimMissing sub"),
-    (ASKS, r#"{"sub":"a"}"#, 0, "ClaimMissing iat"),
-    (
-        ASKS,
-        r#"{"sub":"a","iat":1,"exp":0}"#,
-        0,
-        "ClaimMissing jti",
-    ),
-    (ISSUED, "{}", 0, "Issuer"),
-    (ISSUED, r#"{"iss":"Ann","aud":"a"}"#, 0, "Issuer"),
-    (ISSUED, r#"{"iss":"ann"}"#, 0, "none"),
     (HS256, r#"{"aud":"a"}"#, 0, "Audience"),
-    (API, r#"{"aud":[]}"#, 0, "Audience"),
-    (API, r#"{"aud":["a","api"]}"#, 0, "none"),
-    (API, r#"{"aud":"api"}"#, 0, "none"),
     (MOST, r#"{"exp":9223372036854775807}"#, i64::MAX, "none"),
     (
         HS256,
@@ -743,38 +420,6 @@ fn claims_nest_127_deep(rt: HostRuntime) -> Result<(), Fail> {
         assert!(rt; found.as_str() == want, "{lists}");
     }
     Ok(())
-}
-
-/// Whether `iss`, `sub` and `jti` are what the payload says.
-fn has_texts(claims: &Claims) -> bool {
-    claims.iss() == Some("joe") && claims.sub() == Some("") && claims.jti() == Some("x")
-}
-
-/// Whether `exp`, `nbf` and `iat` are what the payload says.
-fn has_dates(claims: &Claims) -> bool {
-    claims.exp() == Some(1_300_819_380) && claims.nbf() == Some(-1) && claims.iat().is_none()
-}
-
-/// Whether `aud` and a claim that isn't registered are what the payload says.
-fn has_audience_and_flag(claims: &Claims) -> bool {
-    claims.object().flag("z") == Some(true)
-        && matches!(claims.aud(), Some(Audience::Texts(list)) if list.text(1) == Some("b"))
-}
-
-/// Whether claims say what this payload says.
-fn are_said(alloc: Global) -> bool {
-    let payload =
-        br#"{"iss":"joe","sub":"","aud":["a","b"],"exp":1300819380,"nbf":-1,"jti":"x","z":true}"#;
-    match &Claims::read(alloc, payload) {
-        Ok(claims) => has_texts(claims) && has_dates(claims) && has_audience_and_flag(claims),
-        Err(_) => false,
-    }
-}
-
-/// Claims tell each registered claim, and the others by name.
-#[test]
-fn claims_say_what_their_payload_says(rt: HostRuntime) {
-    assert!(rt; are_said(rt.alloc()));
 }
 
 /// Whether a policy is read, or memory was refused.

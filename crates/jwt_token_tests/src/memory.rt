@@ -3,11 +3,8 @@
 use fowharimu::{Outcome, Remembering};
 use jwt_keys::KeySet;
 use jwt_mac::Budget;
-use jwt_memory::Memory;
 use jwt_policy::{ClaimFault, Policy};
-use jwt_support::examples::{HS256, KEYS_A2, NOW, TOKEN_A2, filled};
-use jwt_text::Scratch;
-use jwt_told::{Answers, OpenPair, ToldTerms, read_token};
+use jwt_support::examples::{HS256, NOW, filled};
 use jwt_verify::{Fault, Verdict};
 use std::alloc::Global;
 use std::num::NonZeroUsize;
@@ -187,74 +184,5 @@ fn unmet(alloc: Global) -> Result<Option<&'static str>, Fail> {
 #[test]
 fn a_token_that_comes_again_is_judged_by_its_claims(rt: HostRuntime) -> Result<(), Fail> {
     assert_eq!(rt; unmet(rt.alloc())?, None);
-    Ok(())
-}
-
-/// The outcome of the token of RFC 7515, appendix A.2, by a memory and the caller's answers.
-fn word_by(
-    alloc: Global,
-    memory: &mut Memory,
-    policy: &Policy,
-    keys: &KeySet,
-    answers: &Answers,
-) -> &'static str {
-    let mut budget = policy.budget();
-    let mut scratch = Scratch::new(alloc);
-    let octets = TOKEN_A2.as_bytes();
-    let terms = ToldTerms {
-        keys,
-        policy,
-        moment: NOW,
-        answers,
-    };
-    match memory.judge_told(alloc, octets, &terms, &mut budget, &mut scratch) {
-        Ok(handed) => word_of(&handed.outcome),
-        Err(_) => "asks",
-    }
-}
-
-/// Tells that the first key made the first signature of that token.
-fn tell_valid(
-    alloc: Global,
-    policy: &Policy,
-    keys: &KeySet,
-    answers: &mut Answers,
-) -> Result<(), Fail> {
-    let signed = read_token(alloc, TOKEN_A2.as_bytes(), policy)?.ok_or("no token")?;
-    let first = OpenPair {
-        signature: 0,
-        key: 0,
-    };
-    let question = first.about(&signed, keys).ok_or("no question")?;
-    answers.tell(alloc, &question, true)?;
-    Ok(())
-}
-
-/// A remembered token asks nothing.
-#[test]
-fn what_was_told_once_is_asked_no_more(rt: HostRuntime) -> Result<(), Fail> {
-    let alloc = rt.alloc();
-    let policy = Policy::read(alloc, br#"{"algs":["RS256"]}"#)
-        .ok()
-        .ok_or("no policy")?;
-    let keys = KeySet::read(alloc, KEYS_A2.as_bytes())?;
-    let room = NonZeroUsize::new(2).ok_or("no room")?;
-    let mut memory = Memory::new(alloc, room, 8192)?;
-    let mut answers = Answers::new(alloc);
-    assert_eq!(rt;
-        word_by(alloc, &mut memory, &policy, &keys, &answers),
-        "asks"
-    );
-    tell_valid(alloc, &policy, &keys, &mut answers)?;
-    assert_eq!(rt;
-        word_by(alloc, &mut memory, &policy, &keys, &answers),
-        "accepted"
-    );
-    // Nothing is told any more, and nothing is asked.
-    answers.clear();
-    assert_eq!(rt;
-        word_by(alloc, &mut memory, &policy, &keys, &answers),
-        "remembered"
-    );
     Ok(())
 }

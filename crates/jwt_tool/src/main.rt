@@ -48,21 +48,30 @@ fn main(rt: HostRuntime) -> ExitCode {
     }
 }
 
+/// Whether the words are wrong: then nothing is read, nor is a file opened that one of them may name.
+fn are_wrong(rt: &HostRuntime, words: &[&str], clock: Option<Moment>) -> bool {
+    match read_words(rt.alloc(), words, clock) {
+        Err(WordsFault::Wrong(_)) => true,
+        _ => false,
+    }
+}
+
 /// Runs the command that the program's words ask for, on standard input, or on the file that stands in its place.
 fn run<W: Sink>(rt: &HostRuntime, clock: Option<Moment>, w: &mut Answered<W>) -> io::Result<u8> {
     let args: Vec<String> = env::args(rt)?.collect(rt.alloc())?;
     let Spelled { words, input } = as_meant(rt.alloc(), args.as_slice())?;
     let words: Vec<&str> = words.iter().map(|word| word.as_str()).collect(rt.alloc())?;
     let words = words.as_slice();
-    match input {
-        Some(name) if name.as_str() != "-" => match input_of(rt, words, name.as_str())? {
-            Some(file) => run_words(rt, clock, words, &mut Reader::new(file), w),
-            None => Ok(give(
-                w,
-                printed_file_fault(rt.alloc(), printing_in(words), name.as_str()),
-            )),
-        },
-        _ => run_words(rt, clock, words, &mut Reader::new(rt.stdin()), w),
+    let name = match input {
+        Some(name) if name.as_str() != "-" && !are_wrong(rt, words, clock) => name,
+        _ => return run_words(rt, clock, words, &mut Reader::new(rt.stdin()), w),
+    };
+    match input_of(rt, words, name.as_str())? {
+        Some(file) => run_words(rt, clock, words, &mut Reader::new(file), w),
+        None => Ok(give(
+            w,
+            printed_file_fault(rt.alloc(), printing_in(words), name.as_str()),
+        )),
     }
 }
 

@@ -1,5 +1,5 @@
-"""Validates JSON Web Tokens (RFC 7519) by a library that is proved correct. Public-key signatures are verified by its proved verifiers where the
-package has its library inside, as a wheel has, and else by OpenSSL.
+"""Validates JSON Web Tokens (RFC 7519) by a library that is proved correct. Public-key signatures are verified by its proved
+verifiers.
 
     from fowharimu import TokenRefused, Validator
 
@@ -43,11 +43,9 @@ from ._faults import (
     SignatureRefused,
     TokenRefused,
     TooLong,
-    TooManyQuestions,
-    Undecided,
     Unreadable,
 )
-from ._once import Once, OnceStore, once_of
+from ._once import Once, OnceStore, asks_store, once_of
 from ._possession import ANYONE, UNBOUND, Certificate, Holder, Nonces, Proof, Proofs
 from ._seats import SHORT, Seat, Seats, said, written
 from ._texts import Document, Text, document_of, octets_of
@@ -83,10 +81,8 @@ __all__ = [
     "SignatureState",
     "TokenRefused",
     "TooLong",
-    "TooManyQuestions",
     "Try",
     "UNBOUND",
-    "Undecided",
     "Unreadable",
     "Validator",
 ]
@@ -164,15 +160,17 @@ def _object(text: str, what: str) -> Dict[str, Any]:
     return members
 
 
+def _is_hmac_alone(policy: bytes) -> bool:
+    """Whether a policy that the library has read allows HMAC alone."""
+    return all(it.startswith("HS") for it in json.loads(policy)["algs"])
+
+
 class Validator:
     """A policy and a key set, by which tokens are judged.
 
     Both are given as octets, as a text, or as what is written as their JSON text. Threads may share it, and judge side by side; after
     fork, parent and child each go on with their own. It isn't copied. It is closed by `close` or at the end of `with`: calls that are
     under way end, and later ones raise Closed. What a validator holds that is never closed is freed with it.
-
-    `most_questions` is how often OpenSSL may be asked for one token; None takes whatever the policy and the keys allow, up to 32,768. More
-    than 64 are seldom meant: `max_calls` in the policy bounds them.
 
     `remember=(tokens, octets)` remembers so many accepted tokens of at most so many octets each, the least used goes first: one that comes again
     is found by all its octets, and only its claims are looked at. Each call that is under way at once has a memory of its own. Accepted tokens
@@ -183,7 +181,7 @@ class Validator:
     many as are accepted within the lifetime of one. `once=Once(tokens)` is a memory that validators share. A token is let in once a memory, so once a
     process; after fork each child has its own: where several have to share one, `once` is an OnceStore. `now` is then the clock's moment: one far in the future closes the memory. `judge` takes nothing.
 
-    Raises PolicyRefused, KeysRefused or TooManyQuestions, AnotherLibrary where another library was loaded than this package is made for,
+    Raises PolicyRefused or KeysRefused, AnotherLibrary where another library was loaded than this package is made for,
     and MemoryError where memory is refused.
     """
 
@@ -192,29 +190,28 @@ class Validator:
         policy: Document,
         keys: Document,
         *,
-        most_questions: Optional[int] = _library.MOST_QUESTIONS,
         remember: Tuple[SupportsIndex, SupportsIndex] = (0, 0),
         once: Union[Once, OnceStore, SupportsIndex, None] = None,
     ) -> None:
         tokens, octets = (_number(it, "remember", 0, 2 * sys.maxsize + 1) for it in remember)
         self._once = once_of(once)
+        self._asks_store = asks_store(self._once)
         self._library = _library.load()
         policy_octets, key_octets = document_of(policy, "a policy"), document_of(keys, "a key set")
         documents = Seat()
         fault = ctypes.c_uint32()
-        status = _library.opened(self._library, documents.held, policy_octets, key_octets, fault)
+        status = self._library.fow_open(documents.held, policy_octets, len(policy_octets), key_octets, len(key_octets), fault)
         if status == _library.OUT_OF_MEMORY:
             raise MemoryError
         if status != _library.OK:
             raise self._document_refused(fault.value, policy_octets)
-        questions = self._questions(documents, most_questions)
         self._issuer = written(65_536, self._library.fow_sole_issuer, documents.held)
         self._is_public = bool(self._library.fow_documents_are_public(documents.held))
         limit = ctypes.c_uint32()
         self._library.fow_token_limit(documents.held, limit)
         self._limit = limit.value
         # (a signature by a public key, and a try of many secrets, take long enough for another thread to go on)
-        self._seats = Seats(documents, (tokens, octets), SHORT if questions == 0 and len(key_octets) <= SHORT else -1)
+        self._seats = Seats(documents, (tokens, octets), SHORT if _is_hmac_alone(policy_octets) and len(key_octets) <= SHORT else -1)
 
     def validate(
         self,
@@ -356,18 +353,7 @@ class Validator:
     def __reduce_ex__(self, protocol: SupportsIndex) -> NoReturn:
         raise TypeError("a Validator isn't copied or pickled: what it holds belongs to it alone")
 
-    def _questions(self, documents: Seat, allowed: Optional[int]) -> int:
-        """How many questions one token can raise. Raises TooManyQuestions where they are more than are allowed."""
-        most = ctypes.c_uint32()
-        if self._library.fow_most_questions(documents.held, most) != _library.OK:
-            raise Closed
-        if allowed is not None and most.value > allowed:
-            raise TooManyQuestions(most.value, allowed)
-        return most.value
-
     def _refusal(self, seat: Seat, report: _library.CReport) -> TokenRefused:
-        if report.verdict == _library.ASKS:
-            return Undecided("Undecided", report.signature, report.key)
         name, kind = self._name(report.fault), report.fault // 100
         if kind == 3:
             return TooLong(name)

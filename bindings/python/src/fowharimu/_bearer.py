@@ -5,7 +5,7 @@ from __future__ import annotations
 import logging
 from typing import Any, Callable, Dict, List, NamedTuple, Protocol, Tuple, TypeVar, Union
 
-from . import Claims, Denied, TokenRefused, Undecided, Validator
+from . import Claims, Denied, TokenRefused, Validator
 from ._access import NO_RULE, Rule, checked
 from ._dpop import DPoP
 from ._possession import ANYONE, UNBOUND, Holder
@@ -68,6 +68,7 @@ class Bearer:
         if not isinstance(refuses_bound, bool):
             raise TypeError("refuses_bound has to be a bool")
         self._validator = validator
+        self._asks_store = getattr(validator, "_asks_store", False)
         self._access = checked(access)
         # (what stands for a validator may know no rules)
         self._words: Dict[str, Any] = {} if access is NO_RULE else {"access": access}
@@ -77,7 +78,7 @@ class Bearer:
         self._quoted = Quoted(checked_realm(realm), algs=b"" if self._dpop is None else self._dpop.algs)
 
     def claims(self, sent: Sent) -> Claims:
-        """The claims of the token of a request. Raises Challenged, and MemoryError, Closed and Undecided where nothing is said of the token: a server answers
+        """The claims of the token of a request. Raises Challenged, and MemoryError and Closed where nothing is said of the token: a server answers
         these by 500."""
         asking = self._asking(sent)
         return self._told(asking, lambda: self._validator.validate(asking.shown.token.decode(), **self._words, **asking.words))
@@ -94,6 +95,8 @@ class Bearer:
 
     def _at_once(self, asking: Asking) -> Union[Claims, Waiting, None]:
         token = asking.shown.token.decode()
+        if self._asks_store or asking.holder.asks_store:
+            return None
         if isinstance(self._validator, Validator):
             return self._validator.validate(token, **self._words, **asking.words)
         judge = getattr(self._validator, "_validate_at_once", None)
@@ -104,8 +107,6 @@ class Bearer:
         shown = asking.shown.scheme
         try:
             return judge()
-        except Undecided:
-            raise
         except Denied as denial:
             _LOG.info("%s", denial)
             outcome = Outcome.NOT_GRANTED if denial.scope is None else Outcome.SCOPE_MISSING

@@ -44,19 +44,6 @@ class AnotherLibrary(FowharimuError):
         return f"the library {self.version} has interface {self.loaded}, and this package was made for {self.made_for}"
 
 
-class TooManyQuestions(FowharimuError):
-    """One token could have OpenSSL asked `most` times under the policy and its keys, and `allowed` are taken. A smaller `max_calls` in the
-    policy bounds it, or fewer keys do."""
-
-    def __init__(self, most: int, allowed: int) -> None:
-        super().__init__(most, allowed)
-        self.most = most
-        self.allowed = allowed
-
-    def __str__(self) -> str:
-        return f"one token could raise {self.most} questions about public keys, and {self.allowed} are taken: set max_calls in the policy"
-
-
 class PolicyRefused(FowharimuError):
     """The policy is refused. `fault` is the name that the program `jwt` prints, such as `Member`; `member` the name of the member that it
     speaks of, where it speaks of one."""
@@ -194,15 +181,6 @@ class ClaimsRefused(TokenRefused):
 
     def __str__(self) -> str:
         return super().__str__() + (f": {self.claim!r}" if self.claim is not None else "")
-
-
-class Undecided(TokenRefused):
-    """OpenSSL couldn't say whether this key made this signature, both numbered from 0: so the token isn't accepted."""
-
-    def __init__(self, fault: str, signature: int, key: int) -> None:
-        super().__init__(fault, signature, key)
-        self.signature = signature
-        self.key = key
 
 
 class Unreadable(TokenRefused):

@@ -1,4 +1,4 @@
-"""The functions and structures of fowharimu.h and fowharimu_openssl.h, through ctypes."""
+"""The functions and structures of fowharimu.h, through ctypes."""
 
 from __future__ import annotations
 
@@ -13,11 +13,10 @@ from typing import Optional
 
 from ._faults import AnotherLibrary
 
-# The number of the interface that this package is made for, and the most questions of one token that are taken as a rule: FOW_ABI and
-# FOW_MOST_QUESTIONS of fowharimu.h.
-ABI, MOST_QUESTIONS = 4, 64
+# The number of the interface that this package is made for: FOW_ABI of fowharimu.h.
+ABI = 5
 
-OK, REFUSED, ASKS, OUT_OF_MEMORY, NOT_OPEN, TOO_SHORT, ABSENT, DENIED, UNNAMED, NOT_EXPECTED = range(10)
+OK, REFUSED, _, OUT_OF_MEMORY, NOT_OPEN, TOO_SHORT, ABSENT, DENIED, UNNAMED, NOT_EXPECTED = range(10)
 
 
 class CValidator(ctypes.Structure):
@@ -42,17 +41,6 @@ class CPossession(ctypes.Structure):
     """fow_possession."""
 
     _fields_ = [("at", ctypes.c_void_p), ("held", ctypes.c_bool)]
-
-
-class COpenssl(ctypes.Structure):
-    """fow_openssl."""
-
-    _fields_ = [
-        ("keys", ctypes.c_void_p),
-        ("count", ctypes.c_size_t),
-        ("room", ctypes.c_void_p),
-        ("size", ctypes.c_size_t),
-    ]
 
 
 class CReport(ctypes.Structure):
@@ -136,7 +124,6 @@ _SIGNATURES = {
     "fow_open": (_U32, [_VALIDATOR, *_IN, *_IN, ctypes.POINTER(_U32)]),
     "fow_open_prepared": (_U32, [_VALIDATOR, *_IN, *_IN, _SIZE, ctypes.POINTER(_U32)]),
     "fow_open_beside": (_U32, [_VALIDATOR, _VALIDATOR]),
-    "fow_most_questions": (_U32, [_VALIDATOR, ctypes.POINTER(_U32)]),
     "fow_close": (None, [_VALIDATOR]),
     "fow_remember": (_U32, [_VALIDATOR, _SIZE, _SIZE]),
     "fow_remembered": (ctypes.c_bool, [_VALIDATOR]),
@@ -191,20 +178,14 @@ _SIGNATURES = {
     "fow_renewal_failed": (ctypes.c_bool, [_RENEWAL, _U64, _U64]),
     "fow_renewal_wait": (ctypes.c_bool, [_RENEWAL, _U64, _U64, _U64]),
     "fow_renewal_quiet_for": (_U64, [_RENEWAL]),
-    "fow_proved_judge": (_U32, [_VALIDATOR, *_IN, ctypes.c_int64, _REPORT]),
-}
-# What the library over OpenSSL has besides.
-_OPENSSL_SIGNATURES = {
-    "fow_openssl_judge": (_U32, [ctypes.POINTER(COpenssl), _VALIDATOR, *_IN, ctypes.c_int64, _REPORT]),
-    "fow_openssl_clear": (None, [ctypes.POINTER(COpenssl)]),
+    "fow_judge": (_U32, [_VALIDATOR, *_IN, ctypes.c_int64, _REPORT]),
 }
 
 
 @functools.lru_cache(maxsize=None)
 def load() -> ctypes.CDLL:
-    """The library, which is looked for once: the one that FOWHARIMU_LIBRARY names, or the one in this package, or the installed one. Where it is
-    over OpenSSL, that verifies public keys, and else the library's own proved verifiers do. Raises AnotherLibrary where it has another
-    interface, and OSError where there is none."""
+    """The library, which is looked for once: the one that FOWHARIMU_LIBRARY names, or the one in this package, or the installed one. Raises
+    AnotherLibrary where it has another interface, and OSError where there is none."""
     library = ctypes.CDLL(os.environ.get("FOWHARIMU_LIBRARY") or _shipped() or _installed())
     _compare(library)
     _declare(library)
@@ -221,23 +202,9 @@ def load_holding() -> ctypes.CDLL:
 
 def _declare(library: ctypes.CDLL) -> None:
     """Says what the functions take and give."""
-    signatures = {**_SIGNATURES, **_OPENSSL_SIGNATURES} if is_over_openssl(library) else _SIGNATURES
-    for function, (result, arguments) in signatures.items():
+    for function, (result, arguments) in _SIGNATURES.items():
         getattr(library, function).restype = result
         getattr(library, function).argtypes = arguments
-
-
-def is_over_openssl(library: ctypes.CDLL) -> bool:
-    """Whether the library is the one over OpenSSL."""
-    return hasattr(library, "fow_openssl_judge")
-
-
-def opened(library: ctypes.CDLL, validator: CValidator, policy: bytes, keys: bytes, fault: ctypes.c_uint32) -> int:
-    """What the library answers where it opens a validator. Where OpenSSL verifies, no key is prepared."""
-    documents = (policy, len(policy), keys, len(keys))
-    if is_over_openssl(library):
-        return library.fow_open_prepared(validator, *documents, 0, fault)
-    return library.fow_open(validator, *documents, fault)
 
 
 def _shipped() -> Optional[str]:
@@ -252,8 +219,8 @@ def _shipped() -> Optional[str]:
 
 
 def _installed() -> str:
-    """The installed library: the one over OpenSSL before the one alone."""
-    return find_library("fowharimu_openssl") or find_library("fowharimu") or "libfowharimu_openssl.so.0"
+    """The installed library."""
+    return find_library("fowharimu") or "libfowharimu.so.0"
 
 
 def _compare(library: ctypes.CDLL) -> None:

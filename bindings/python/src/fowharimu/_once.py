@@ -113,6 +113,11 @@ class _Stored:
 Taking = Union[Once, _Stored]
 
 
+def asks_store(taking: Optional[Taking]) -> bool:
+    """Whether a store of the application's own is asked, which may have its caller wait."""
+    return isinstance(taking, _Stored)
+
+
 def once_of(once: Union[Taking, OnceStore, SupportsIndex, None]) -> Optional[Taking]:
     """A memory that was made, or a store, or a new memory for so many tokens; None where none is asked for."""
     if once is None or isinstance(once, (Once, _Stored)):

@@ -9,7 +9,7 @@ from typing import List, Optional, SupportsIndex, Union
 
 from . import _library
 from ._faults import NotHeld, PolicyRefused
-from ._once import Once, OnceStore, once_of
+from ._once import Once, OnceStore, asks_store, once_of
 from ._seats import Seat, written
 from ._texts import Document, Text, document_of, octets_of
 
@@ -21,6 +21,11 @@ _NONCE, _OTHER_NONCE = 43, 1303
 class Holder:
     """What a call asks of the sender of its token, beside the token: a Proof, a Certificate, or UNBOUND. Where it is left out, nothing is asked, of a token that is bound
     to a key or to a certificate neither."""
+
+    @property
+    def asks_store(self) -> bool:
+        """Whether a store of the application's own is asked, which may have its caller wait."""
+        return False
 
     def hold(self, seat: Seat, token: bytes, moment: int) -> None:
         """Holds it against the token that a seat has accepted just now. Raises NotHeld or NotTaken, and MemoryError where memory is refused."""
@@ -124,6 +129,7 @@ class Proofs:
         if taking is None:
             raise TypeError("once has to be a number, a Once or a store: each proof counts once")
         self._once = taking
+        self.asks_store = asks_store(taking)
 
     @property
     def algs(self) -> str:
@@ -185,6 +191,10 @@ class Proof(Holder):
             raise ValueError("a nonce isn't empty: where none was asked for, it is left out")
         self._proofs = proofs
         self.octets = (octets_of(value, "a proof"), octets_of(method, "a method"), octets_of(uri, "a URI"), asked)
+
+    @property
+    def asks_store(self) -> bool:
+        return self._proofs.asks_store
 
     def hold(self, seat: Seat, token: bytes, moment: int) -> None:
         self._proofs.hold(self, seat, token, moment)

@@ -12,7 +12,7 @@ from ._library import CRenewal, CRenewalAnswer, load_holding
 # What becomes of fetches: enum fow_fetch.
 _NO_FETCH, _BEGINS = 0, 1
 
-# The greatest number of milliseconds, which is never over.
+# The greatest number of milliseconds: 584 million years.
 _MOST = 2**64 - 1
 
 

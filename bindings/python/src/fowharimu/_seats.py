@@ -56,8 +56,7 @@ def _has_call(frame: Optional[FrameType]) -> bool:
 
 
 def _before_fork() -> None:
-    """Waits until no other thread opens a seat or judges: so the child has the documents whole, and no lock within OpenSSL is held in it for
-    ever. Where each thread stands says what is under way: a note of it would stay where a signal cuts a call off."""
+    """Waits until no other thread opens a seat or judges: so the child has the documents whole. Where each thread stands says what is under way: a note of it would stay where a signal cuts a call off."""
     global _is_forking
     _opening.acquire()
     _is_forking = True
@@ -87,29 +86,25 @@ if hasattr(os, "register_at_fork"):
 
 
 class Seat:
-    """A validator of the library, and what OpenSSL made of its keys. It is used by one call at a time. What it holds is freed with it, without a
+    """A validator of the library. It is used by one call at a time. What it holds is freed with it, without a
     lock: Python may do so at any moment, in any thread."""
 
-    __slots__ = ("library", "holding", "short", "held", "crypto", "is_over_openssl", "report", "room", "view", "length", "calls")
+    __slots__ = ("library", "holding", "short", "held", "report", "room", "view", "length", "calls")
 
     def __init__(self, short: int = -1) -> None:
         """`short` is the length of the longest token for which the interpreter's lock is kept."""
         self.library, self.holding, self.short = _library.load(), _library.load_holding(), short
-        self.is_over_openssl = _library.is_over_openssl(self.library)
         self.held = _library.CValidator()
-        self.crypto = _library.COpenssl()
         self.report = _library.CReport()
         self.length = ctypes.c_size_t()
         self._make_room(_ROOM)
         self.calls = None if _calls is None else _calls.Calls(*self._addresses(), short)
 
-    def _addresses(self) -> Tuple[int, int, int, int, int, int]:
+    def _addresses(self) -> Tuple[int, int, int, int]:
         """Where the library has its functions, and the seat what they change."""
-        functions = (self.library.fow_proved_judge, self.library.fow_accepted_payload)
-        alone, payload = (ctypes.cast(it, ctypes.c_void_p).value or 0 for it in functions)
-        over = ctypes.cast(self.library.fow_openssl_judge, ctypes.c_void_p).value or 0 if self.is_over_openssl else 0
-        crypto, held, report = (ctypes.addressof(it) for it in (self.crypto, self.held, self.report))
-        return over, alone, payload, crypto, held, report
+        functions = (self.library.fow_judge, self.library.fow_accepted_payload)
+        judge, payload = (ctypes.cast(it, ctypes.c_void_p).value or 0 for it in functions)
+        return judge, payload, ctypes.addressof(self.held), ctypes.addressof(self.report)
 
     def accepted(self, octets: bytes, moment: int) -> Optional[str]:
         """The payload of a token that is accepted; None where it isn't, and `report` says why. Raises MemoryError where memory is refused."""
@@ -118,14 +113,9 @@ class Seat:
         return self.payload(octets).decode() if self.judge(octets, moment).verdict == _library.OK else None
 
     def judge(self, octets: bytes, moment: int) -> _library.CReport:
-        """The report on a token, until the next call: OpenSSL verifies public keys where the library is over it, and else the library's proved
-        verifiers do. Raises MemoryError where memory is refused."""
+        """The report on a token, until the next call. Raises MemoryError where memory is refused."""
         library = self.holding if len(octets) <= self.short else self.library
-        if self.is_over_openssl:
-            verdict = library.fow_openssl_judge(self.crypto, self.held, octets, len(octets), moment, self.report)
-        else:
-            verdict = library.fow_proved_judge(self.held, octets, len(octets), moment, self.report)
-        if verdict > _library.ASKS:
+        if library.fow_judge(self.held, octets, len(octets), moment, self.report) > _library.REFUSED:
             raise MemoryError
         return self.report
 
@@ -150,12 +140,10 @@ class Seat:
 
     def close(self) -> None:
         """Frees what is held. It may be called twice."""
-        if self.is_over_openssl:
-            self.library.fow_openssl_clear(self.crypto)
         self.library.fow_close(self.held)
 
     def __del__(self) -> None:
-        if hasattr(self, "crypto"):
+        if hasattr(self, "held"):
             self.close()
 
 

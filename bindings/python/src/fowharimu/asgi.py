@@ -2,8 +2,9 @@
 
     app.add_middleware(Guard, validator=Validator(policy, keys))
 
-The claims are `request.state.claims`. A call of a validator takes microseconds, so it stays in the event loop: `max_calls` in the policy bounds it. A token
-that waits for a fetch of keys by URL holds no thread, and the others don't wait behind it.
+The claims are `request.state.claims`. A call of a validator takes microseconds, so it stays in the event loop: `max_calls` in the policy bounds it. A store
+of tokens or proofs that count once is asked in a thread, since it may have its caller wait. A token that waits for a fetch of keys by URL holds no thread,
+and the others don't wait behind it.
 """
 
 from __future__ import annotations

@@ -43,6 +43,7 @@ class Issuers:
         if not order:
             raise ValueError("there has to be an issuer")
         self._reader = order[0][1]
+        self._asks_store = any(it._asks_store for it in self._validators.values())
 
     def validate(
         self, token: Text, now: Optional[SupportsIndex] = None, access: Rule = NO_RULE, *, expected: Expected = NOTHING, holder: Holder = ANYONE

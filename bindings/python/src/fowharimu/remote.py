@@ -28,7 +28,7 @@ from . import Claims, Closed, FowharimuError, Report, SignatureRefused, TokenRef
 from ._access import NO_RULE, Rule
 from ._library import load
 from ._expected import NOTHING, Expected
-from ._once import once_of
+from ._once import asks_store, once_of
 from ._possession import ANYONE, Holder
 from ._renewal import Asker, Renewal
 from ._seats import written
@@ -267,7 +267,7 @@ class RemoteKeys:
     `options` are those of `Validator`.
 
     Raises ValueError for a URL that isn't https, or has a name, a password or a fragment in it, a time that is none, or a policy with an HMAC algorithm;
-    KeysUnavailable where the keys can't be fetched; PolicyRefused, TooManyQuestions, AnotherLibrary and MemoryError as `Validator` does.
+    KeysUnavailable where the keys can't be fetched; PolicyRefused, AnotherLibrary and MemoryError as `Validator` does.
     """
 
     def __init__(
@@ -286,7 +286,8 @@ class RemoteKeys:
         self._policy, self._url = _public_policy(policy), _checked(url, allow_http)
         _check_times(refresh_after=refresh_after, cooldown=cooldown, max_age=max_age, timeout=timeout)
         # (a memory of tokens that count once is one for all key sets that come)
-        options = {**options, "once": once_of(options.get("once"))}
+        once = once_of(options.get("once"))
+        options, self._asks_store = {**options, "once": once}, asks_store(once)
         self._timeout, self._context, self._options = timeout, context, options
         # (whoever is told of a fetch may ask for it)
         self._lock = threading.RLock()

@@ -1,15 +1,13 @@
-//! The functions of `fowharimu.h` and `fowharimu_openssl.h`, as they stand there. The crate `fowharimu` is safe.
+//! The functions of `fowharimu.h`, as they stand there. The crate `fowharimu` is safe.
 #![allow(non_camel_case_types)]
 
 use std::os::raw::{c_char, c_void};
 
 /// The number of the interface that stands here.
-pub const FOW_ABI: u32 = 4;
-pub const FOW_MOST_QUESTIONS: u32 = 64;
+pub const FOW_ABI: u32 = 5;
 
 pub const FOW_OK: u32 = 0;
 pub const FOW_REFUSED: u32 = 1;
-pub const FOW_ASKS: u32 = 2;
 pub const FOW_OUT_OF_MEMORY: u32 = 3;
 pub const FOW_NOT_OPEN: u32 = 4;
 pub const FOW_TOO_SHORT: u32 = 5;
@@ -172,16 +170,6 @@ pub struct fow_next {
     pub most: u32,
 }
 
-/// What OpenSSL made of the keys of one opened validator.
-#[repr(C)]
-#[derive(Debug)]
-pub struct fow_openssl {
-    pub keys: *mut c_void,
-    pub count: usize,
-    pub room: *mut u8,
-    pub size: usize,
-}
-
 extern "C" {
     pub fn fow_abi() -> u32;
 
@@ -207,8 +195,6 @@ extern "C" {
     ) -> u32;
 
     pub fn fow_open_beside(validator: *mut fow_validator, another: *mut fow_validator) -> u32;
-
-    pub fn fow_most_questions(validator: *mut fow_validator, most: *mut u32) -> u32;
 
     pub fn fow_refused_member(
         policy: *const u8,
@@ -518,25 +504,11 @@ extern "C" {
 
     pub fn fow_fault_name(fault: u32) -> *const c_char;
 
-    pub fn fow_proved_judge(
+    pub fn fow_judge(
         validator: *mut fow_validator,
         token: *const u8,
         token_len: usize,
         now: i64,
         report: *mut fow_report,
     ) -> u32;
-}
-
-#[cfg(feature = "openssl")]
-extern "C" {
-    pub fn fow_openssl_judge(
-        crypto: *mut fow_openssl,
-        validator: *mut fow_validator,
-        token: *const u8,
-        token_len: usize,
-        now: i64,
-        report: *mut fow_report,
-    ) -> u32;
-
-    pub fn fow_openssl_clear(crypto: *mut fow_openssl);
 }

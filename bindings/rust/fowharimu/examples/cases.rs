@@ -1,4 +1,4 @@
-//! Answers each case of a table that `tests/cases/make` wrote, over OpenSSL: cases [-remember] FILE. `tests/cases/README.md` says what a
+//! Answers each case of a table that `tests/cases/make` wrote: cases [-remember] FILE. `tests/cases/README.md` says what a
 //! line is. `?` stands for what this crate doesn't show. It doesn't issue. With `-remember` tokens are remembered, and each is judged at several
 //! moments first.
 
@@ -106,9 +106,6 @@ fn refused(error: Error) -> Result<String, Error> {
             "?".to_owned(),
             claim.unwrap_or_default(),
         ),
-        Error::Undecided { signature, key } => {
-            return Ok(format!("asks\t-\t0\t{signature}\t{key}\t-\t?\t?\t?\t-"));
-        }
         other => return Err(other),
     };
     let claim = spelled(&claim);
@@ -180,7 +177,7 @@ fn remembers() -> bool {
 
 /// A validator that takes any documents, and remembers tokens where that is asked for.
 fn open(policy: &[u8], keys: &[u8]) -> Result<Validator, Error> {
-    let validator = Validator::open_within(policy, keys, u32::MAX)?;
+    let validator = Validator::open(policy, keys)?;
     Ok(if remembers() {
         validator.remembering(100, 1 << 20)
     } else {

@@ -27,9 +27,6 @@ pub enum Error {
         loaded: u32,
         version: String,
     },
-    /// One token could have OpenSSL asked `most` times under the policy and its keys, and `allowed` are taken. A smaller `max_calls` in
-    /// the policy bounds it, or fewer keys do.
-    TooManyQuestions { most: u32, allowed: u32 },
     /// The policy is refused, for this member where the fault speaks of one.
     Policy {
         fault: String,
@@ -90,8 +87,6 @@ pub enum Error {
         fault: String,
         claim: Option<String>,
     },
-    /// OpenSSL couldn't say whether this key made this signature: so the token isn't accepted.
-    Undecided { signature: u32, key: u32 },
     /// An allocation was refused.
     OutOfMemory,
     /// The library wrote octets that are no text in UTF-8, so that nothing can be shown of them.
@@ -108,10 +103,6 @@ impl fmt::Display for Error {
             } => write!(
                 f,
                 "the library {version} has interface {loaded}, and this crate was made for {made_for}"
-            ),
-            Error::TooManyQuestions { most, allowed } => write!(
-                f,
-                "one token could raise {most} questions about public keys, and {allowed} are taken: set max_calls in the policy"
             ),
             Error::Policy { fault, member } => {
                 write!(f, "the policy is refused: {fault}")?;
@@ -171,10 +162,6 @@ impl fmt::Display for Error {
                 write!(f, "the token is refused: {fault}")?;
                 claim.iter().try_for_each(|it| write!(f, " {it:?}"))
             }
-            Error::Undecided { signature, key } => write!(
-                f,
-                "the token isn't accepted: signature {signature} couldn't be tried with key {key}"
-            ),
             Error::OutOfMemory => write!(f, "an allocation was refused"),
             Error::NotUtf8 => write!(f, "what is to be shown is no text in UTF-8"),
         }

@@ -1,5 +1,5 @@
-//! Validates JSON Web Tokens (RFC 7519) by a library that is proved correct. Public-key signatures are verified by the library's
-//! proved verifiers, which need no other library, or with the feature `openssl` by OpenSSL.
+//! Validates JSON Web Tokens (RFC 7519) by a library that is proved correct. Public-key signatures are verified by its proved verifiers,
+//! which need no other library.
 //!
 //! ```no_run
 //! # fn main() -> Result<(), Box<dyn std::error::Error>> {
@@ -14,7 +14,6 @@
 
 mod access;
 mod call;
-mod crypto;
 mod error;
 mod fetch;
 mod issuers;
@@ -85,28 +84,12 @@ pub struct Validator {
 }
 
 impl Validator {
-    /// The most questions of one token that [`open`](Validator::open) takes.
-    pub const MOST_QUESTIONS: u32 = fowharimu_sys::FOW_MOST_QUESTIONS;
-
-    /// Reads a policy and a key set under which OpenSSL is asked at most 64 times for one token.
+    /// Reads a policy and a key set.
     ///
     /// # Errors
-    /// `Policy`, `Keys`, `TooManyQuestions`, `OutOfMemory`, and `AnotherLibrary`.
+    /// `Policy`, `Keys`, `OutOfMemory`, and `AnotherLibrary`.
     pub fn open(policy: &[u8], keys: &[u8]) -> Result<Validator, Error> {
-        Validator::open_within(policy, keys, Validator::MOST_QUESTIONS)
-    }
-
-    /// Reads a policy and a key set under which OpenSSL is asked at most so many times for one token, up to 32,768. More than 64 are
-    /// seldom meant: `max_calls` in the policy bounds them.
-    ///
-    /// # Errors
-    /// As of [`open`](Validator::open).
-    pub fn open_within(
-        policy: &[u8],
-        keys: &[u8],
-        most_questions: u32,
-    ) -> Result<Validator, Error> {
-        let mut documents = Seat::open_within(policy, keys, most_questions)?;
+        let mut documents = Seat::open(policy, keys)?;
         let terms = documents.terms()?;
         Ok(Validator {
             terms,

@@ -5,7 +5,7 @@ use crate::renewal::Times;
 use crate::seat::Seat;
 use crate::source::Source;
 use crate::urls::Url;
-use crate::{Error, Once, RemoteKeys, Validator};
+use crate::{Error, Once, RemoteKeys};
 use std::fmt;
 use std::panic::{catch_unwind, AssertUnwindSafe};
 use std::sync::Arc;
@@ -31,7 +31,6 @@ pub struct Fetched<'a> {
 pub struct Remote {
     source: Source,
     times: Times,
-    most_questions: u32,
     remembers: (usize, usize),
     once: Option<Arc<Once>>,
     on_fetch: Box<dyn Fn(&Fetched<'_>) + Send + Sync>,
@@ -44,7 +43,6 @@ impl Remote {
         Remote {
             source: Source::by(client),
             times: Times::default(),
-            most_questions: Validator::MOST_QUESTIONS,
             remembers: (0, 0),
             once: None,
             on_fetch: Box::new(|_| {}),
@@ -83,13 +81,6 @@ impl Remote {
     #[must_use]
     pub fn allow_http(mut self) -> Remote {
         self.source.allow_http = true;
-        self
-    }
-
-    /// As of [`Validator::open_within`].
-    #[must_use]
-    pub fn most_questions(mut self, most: u32) -> Remote {
-        self.most_questions = most;
         self
     }
 
@@ -137,7 +128,7 @@ impl Remote {
 
     /// The policy and no keys, where it is one for keys by URL, and for exactly this issuer, where there is one.
     fn without_keys(&self, policy: &[u8], issuer: Option<&str>) -> Result<Seat, Error> {
-        let mut documents = Seat::open_within(policy, NO_KEYS, self.most_questions)?;
+        let mut documents = Seat::open(policy, NO_KEYS)?;
         let terms = documents.terms()?;
         if terms.is_public && (issuer.is_none() || terms.issuer.as_deref() == issuer) {
             Ok(documents)
@@ -201,7 +192,7 @@ impl Feed {
 
     /// Reads keys that were fetched, in which there may be no secret (RFC 8725, section 2.1).
     fn read(&self, keys: &[u8]) -> Result<Seat, String> {
-        let opened = Seat::open_within(&self.policy, keys, self.how.most_questions);
+        let opened = Seat::open(&self.policy, keys);
         let mut documents = opened.map_err(|error| error.to_string())?;
         match documents.terms() {
             Ok(terms) if terms.is_public => Ok(documents),

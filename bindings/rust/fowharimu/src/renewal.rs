@@ -156,7 +156,7 @@ impl Renewal {
     }
 }
 
-/// The whole milliseconds of a time; of one that is too long for them the most, which is never over.
+/// The whole milliseconds of a time; of one that is too long for them the most, which are 584 million years.
 fn milliseconds(time: Duration) -> u64 {
     u64::try_from(time.as_millis()).unwrap_or(u64::MAX)
 }

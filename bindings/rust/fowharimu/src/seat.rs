@@ -1,6 +1,5 @@
 //! What one call at a time judges with.
 
-use crate::crypto::Crypto;
 use crate::texts::{text_member, written, NAME_ROOM};
 use crate::{Call, Claims, Error, Once, Part};
 use fowharimu_sys as sys;
@@ -37,11 +36,10 @@ impl Named {
     }
 }
 
-/// A validator of the library, and what verifies its public keys.
+/// A validator of the library.
 #[derive(Debug)]
 pub(crate) struct Seat {
     held: sys::fow_validator,
-    crypto: Crypto,
     /// The number of its documents, which are 0 where no others come after them.
     documents: u64,
 }
@@ -57,7 +55,6 @@ impl Seat {
                 at: ptr::null_mut(),
                 held: false,
             },
-            crypto: Crypto::new(),
             documents: 0,
         }
     }
@@ -75,33 +72,24 @@ impl Seat {
     }
 
     /// Reads a policy and a key set, where the library has the interface that this crate is made for.
-    fn open(policy: &[u8], keys: &[u8]) -> Result<Seat, Error> {
+    pub(crate) fn open(policy: &[u8], keys: &[u8]) -> Result<Seat, Error> {
         compare()?;
         let mut seat = Seat::new();
         let mut fault = 0;
-        match seat.crypto.open(&mut seat.held, policy, keys, &mut fault) {
+        // SAFETY: the slices are as long as their lengths say, and aren't null.
+        let status = unsafe {
+            sys::fow_open(
+                &mut seat.held,
+                policy.as_ptr(),
+                policy.len(),
+                keys.as_ptr(),
+                keys.len(),
+                &mut fault,
+            )
+        };
+        match status {
             sys::FOW_OK => Ok(seat),
             sys::FOW_REFUSED => Err(document_refused(fault, policy)),
-            _ => Err(Error::OutOfMemory),
-        }
-    }
-
-    /// The same, where one token can raise at most so many questions.
-    pub(crate) fn open_within(policy: &[u8], keys: &[u8], allowed: u32) -> Result<Seat, Error> {
-        let mut seat = Seat::open(policy, keys)?;
-        let most = seat.most_questions()?;
-        if most > allowed {
-            return Err(Error::TooManyQuestions { most, allowed });
-        }
-        Ok(seat)
-    }
-
-    /// How many questions one token can raise.
-    fn most_questions(&mut self) -> Result<u32, Error> {
-        let mut most = 0;
-        // SAFETY: it is the one that the other calls had.
-        match unsafe { sys::fow_most_questions(&mut self.held, &mut most) } {
-            sys::FOW_OK => Ok(most),
             _ => Err(Error::OutOfMemory),
         }
     }
@@ -209,13 +197,23 @@ impl Seat {
     }
 
     fn judge(&mut self, token: &[u8], now: i64) -> sys::fow_report {
-        self.crypto.judge(&mut self.held, token, now)
+        let mut report = sys::fow_report::default();
+        // SAFETY: the slice is as long as its length says, and isn't null.
+        unsafe {
+            sys::fow_judge(
+                &mut self.held,
+                token.as_ptr(),
+                token.len(),
+                now,
+                &mut report,
+            );
+        }
+        report
     }
 
     fn refusal(&mut self, report: &sys::fow_report) -> Error {
         let (signature, key) = (report.signature, report.key);
         match report.verdict {
-            sys::FOW_ASKS => return Error::Undecided { signature, key },
             sys::FOW_REFUSED => {}
             _ => return Error::OutOfMemory,
         }

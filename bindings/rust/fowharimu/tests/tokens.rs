@@ -41,7 +41,7 @@ fn each_token_is_accepted_and_refused_where_it_is_changed() {
         let verdict = validator.validate_at(&token, NOW);
         if name.ends_with("rfc8037-a4.jwt") {
             assert!(matches!(verdict, Err(Error::Claims { .. })), "{name:?}");
-        } else if name.ends_with("Ed448.jwt") && cfg!(not(feature = "openssl")) {
+        } else if name.ends_with("Ed448.jwt") {
             assert!(matches!(verdict, Err(Error::Signature { .. })), "{name:?}");
         } else {
             assert!(verdict.unwrap().json().contains("joe"), "{name:?}");
@@ -194,37 +194,6 @@ fn the_clock_is_the_moment() {
             claim: None
         }
     );
-}
-
-#[test]
-fn a_policy_without_a_bound_is_refused_unless_it_is_asked_for() {
-    let set = fs::read_to_string(top().join("examples/rfc7515-a2.keys")).unwrap();
-    let one = set.trim().strip_prefix(r#"{"keys":["#).unwrap();
-    let nine = [one.strip_suffix("]}").unwrap(); 9].join(",");
-    let keys = format!(r#"{{"keys":[{nine}]}}"#).into_bytes();
-    let refused = |most, allowed| Error::TooManyQuestions { most, allowed };
-    let cases: [(&[u8], u32); 5] = [
-        (br#"{"algs":["RS256"]}"#, 72),
-        (br#"{"algs":["RS256","PS256"],"max_signatures":32}"#, 288),
-        (br#"{"version":2,"algs":["RS256"],"max_calls":64}"#, 64),
-        (br#"{"algs":["HS256","ES256"]}"#, 0),
-        (br#"{"version":2,"algs":["RS256"],"max_calls":0}"#, 0),
-    ];
-    for (policy, most) in cases {
-        if most > 64 {
-            assert_eq!(
-                Validator::open(policy, &keys).unwrap_err(),
-                refused(most, 64)
-            );
-            assert_eq!(
-                Validator::open_within(policy, &keys, most - 1).unwrap_err(),
-                refused(most, most - 1)
-            );
-        } else {
-            assert!(Validator::open(policy, &keys).is_ok());
-        }
-        assert!(Validator::open_within(policy, &keys, most).is_ok());
-    }
 }
 
 /// `tests/run` links a library of another interface.

@@ -31,7 +31,7 @@ fn decide(validator: &Validator, head: &[String]) -> Decision {
     };
     match validator.validate(token.as_bytes()) {
         Ok(claims) => Decision::Through(claims),
-        Err(Error::OutOfMemory | Error::NotUtf8 | Error::Undecided { .. }) => Decision::Failed,
+        Err(Error::OutOfMemory | Error::NotUtf8) => Decision::Failed,
         Err(refusal) => {
             eprintln!("{refusal}");
             Decision::Refused("Bearer error=\"invalid_token\"")

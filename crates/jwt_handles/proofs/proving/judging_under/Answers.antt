@@ -4,7 +4,7 @@ use Rattle.jwt_handles.specs.Evidence.{payload_kept}
 use Rattle.jwt_handles.specs.Remembering.{IsHeldIn}
 use Rattle.jwt_handles.proofs.Adding.{adds_said, adds_nothing}
 use Rattle.jwt_handles.proofs.Payloads.{keeps_payload}
-use Rattle.jwt_handles.proofs.Telling.{is_small}
+use Rattle.jwt_handles.proofs.Numbering.{is_small}
 use Rattle.jwt_handles.proofs.proving.judging_under.Goals as goal
 
 pub returns-in-Ok-clause-judged : goal.returns-in-Ok-clause-judged

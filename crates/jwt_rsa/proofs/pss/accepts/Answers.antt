@@ -11,20 +11,20 @@ use Rattle.jwt_rsa.proofs.pss.accepts.Goals as goal
 pub returns-in_default : goal.returns-in_default
 unfolding pss_accepts
 returns-in_default c =
-    sym (and_left _ _ (not_key c.args.n.now c.args.e.now c.args.signature.now (false_from_ne_true _ c.in_default.ensures)))
+    sym (and_left _ _ (not_key c.args.key.n.now c.args.key.e.now c.args.signature.now (false_from_ne_true _ c.in_default.ensures)))
 
 pub returns-then-not-recover : goal.returns-then-not-recover
 unfolding pss_accepts
 returns-then-not-recover c =
     let key = c.in-Some.ensures.1 in
-    sym (and_left _ _ (by_answer c.args.n.now c.args.e.now c.args.signature.now _ _ (ap (λ k. k.n) key) (ap (λ k. k.e) key)
+    sym (and_left _ _ (by_answer c.args.key.n.now c.args.key.e.now c.args.signature.now _ _ (ap (λ k. k.n) key) (ap (λ k. k.e) key)
     c.recover.result c.recover.ensures.asked c.if-not-recover.true))
 
 pub returns : goal.returns
 unfolding pss_accepts
 returns c =
-    let n = c.args.n.now in
-    let e = c.args.e.now in
+    let n = c.args.key.n.now in
+    let e = c.args.key.e.now in
     let s = c.args.signature.now in
     let hash = c.args.hash in
     let key = c.in-Some.ensures.1 in

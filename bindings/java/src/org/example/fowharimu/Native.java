@@ -91,8 +91,6 @@ final class Native {
     /** The address of another validator on the documents of this one; 0 where memory is refused. */
     static native long openBeside(long it);
 
-    static native int mostQuestions(long it);
-
     /** Remembers so many tokens of so many octets from now on, and answers the status. */
     static native int remember(long it, int tokens, int octets);
 

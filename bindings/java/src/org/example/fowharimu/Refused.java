@@ -10,8 +10,6 @@ public final class Refused extends Exception {
         POLICY,
         /** The key set. */
         KEYS,
-        /** The policy and the key set, since one token could raise more questions about public keys than are taken. */
-        QUESTIONS,
         /** A token with more octets than the policy's {@code limit}. */
         TOO_LONG,
         /** Octets that are no signed token; {@link #about} is the part that the fault speaks of: payload, protected or signature. */
@@ -48,7 +46,7 @@ public final class Refused extends Exception {
 
     private static final long serialVersionUID = 1;
     private static final String[] WHAT = {
-        "the policy is refused", "the key set is refused", "the policy is refused", "the token is refused", "the token is refused",
+        "the policy is refused", "the key set is refused", "the token is refused", "the token is refused",
         "the token is refused", "the token is refused", "the token is refused", "the claims are refused", "the access rule is refused",
         "the token is refused", "the token counts once, and isn't taken", "the token isn't what was expected",
         "the sender of the token doesn't hold its key"
@@ -98,8 +96,8 @@ public final class Refused extends Exception {
     /**
      * Why it is refused.
      *
-     * @return the name that the program {@code jwt} prints, such as {@code Expired}; of {@link Kind#QUESTIONS} {@code TooManyQuestions}, of
-     *     {@link Kind#KEYS_TOO_OLD} {@code KeysTooOld}, and of {@link Kind#NOT_TAKEN}, {@link Kind#NOT_EXPECTED} and {@link Kind#NOT_HELD} those that stand there
+     * @return the name that the program {@code jwt} prints, such as {@code Expired}; of {@link Kind#KEYS_TOO_OLD}
+     *     {@code KeysTooOld}, and of {@link Kind#NOT_TAKEN}, {@link Kind#NOT_EXPECTED} and {@link Kind#NOT_HELD} those that stand there
      */
     public String fault() {
         return fault;

@@ -26,7 +26,6 @@ public final class RemoteKeys implements Judging {
     private final byte[] policy;
     private final URI address;
     private final Fetching how;
-    private final int mostQuestions;
     private final Remember remember;
     /** One memory of tokens that count once for all key sets that come. */
     private final Optional<Once> once;
@@ -65,7 +64,7 @@ public final class RemoteKeys implements Judging {
      * @throws IllegalArgumentException as of {@link #RemoteKeys(byte[], String)}
      */
     public RemoteKeys(byte[] policy, String url, Fetching how) throws Refused, KeysUnavailable {
-        this(policy, url, how, Validator.MOST_QUESTIONS, new Remember());
+        this(policy, url, how, new Remember());
     }
 
     /**
@@ -74,14 +73,13 @@ public final class RemoteKeys implements Judging {
      * @param policy a JSON text, as the program {@code jwt} takes it
      * @param url where the key set stands
      * @param how how it is fetched
-     * @param mostQuestions how many questions about public keys one token may raise, up to 32,768
      * @param remember how many tokens of how many octets are remembered
      * @throws Refused where the policy is refused
      * @throws KeysUnavailable where the keys can't be fetched
      * @throws IllegalArgumentException as of {@link #RemoteKeys(byte[], String)}
      */
-    public RemoteKeys(byte[] policy, String url, Fetching how, int mostQuestions, Remember remember) throws Refused, KeysUnavailable {
-        this(policy, url, how, mostQuestions, remember, Optional.empty());
+    public RemoteKeys(byte[] policy, String url, Fetching how, Remember remember) throws Refused, KeysUnavailable {
+        this(policy, url, how, remember, Optional.empty());
     }
 
     /**
@@ -96,7 +94,7 @@ public final class RemoteKeys implements Judging {
      * @throws IllegalArgumentException as of {@link #RemoteKeys(byte[], String)}
      */
     public RemoteKeys(byte[] policy, String url, Fetching how, Once once) throws Refused, KeysUnavailable {
-        this(policy, url, how, Validator.MOST_QUESTIONS, new Remember(), once);
+        this(policy, url, how, new Remember(), once);
     }
 
     /**
@@ -105,23 +103,21 @@ public final class RemoteKeys implements Judging {
      * @param policy a JSON text, as the program {@code jwt} takes it
      * @param url where the key set stands
      * @param how how it is fetched
-     * @param mostQuestions how many questions about public keys one token may raise, up to 32,768
      * @param remember how many tokens of how many octets are remembered
      * @param once where tokens are taken
      * @throws Refused where the policy is refused
      * @throws KeysUnavailable where the keys can't be fetched
      * @throws IllegalArgumentException as of {@link #RemoteKeys(byte[], String)}
      */
-    public RemoteKeys(byte[] policy, String url, Fetching how, int mostQuestions, Remember remember, Once once) throws Refused, KeysUnavailable {
-        this(policy, url, how, mostQuestions, remember, Optional.of(Objects.requireNonNull(once, "once")));
+    public RemoteKeys(byte[] policy, String url, Fetching how, Remember remember, Once once) throws Refused, KeysUnavailable {
+        this(policy, url, how, remember, Optional.of(Objects.requireNonNull(once, "once")));
     }
 
-    private RemoteKeys(byte[] policy, String url, Fetching how, int mostQuestions, Remember remember, Optional<Once> once)
+    private RemoteKeys(byte[] policy, String url, Fetching how, Remember remember, Optional<Once> once)
             throws Refused, KeysUnavailable {
         this.policy = publicPolicy(policy, null);
         this.address = Urls.checked(url, how.allowsHttp());
         this.how = how;
-        this.mostQuestions = mostQuestions;
         this.remember = Objects.requireNonNull(remember, "remember");
         this.once = once;
         this.client = Fetch.client(how);
@@ -173,7 +169,7 @@ public final class RemoteKeys implements Judging {
         } catch (IOException | IllegalArgumentException e) {
             throw new KeysUnavailable(e);
         }
-        return new RemoteKeys(policy, url, how, Validator.MOST_QUESTIONS, new Remember(), once);
+        return new RemoteKeys(policy, url, how, new Remember(), once);
     }
 
     /** As {@link Validator#validate(byte[], long)}. The refusal may be of the kind {@link Refused.Kind#KEYS_TOO_OLD} too. */
@@ -434,7 +430,7 @@ public final class RemoteKeys implements Judging {
 
     /** The policy over keys that were fetched, among which there may be no secret (RFC 8725, section 2.1). */
     private Validator open(byte[] keys) throws Refused, IOException {
-        Validator it = new Validator(policy, keys, mostQuestions, remember, once);
+        Validator it = new Validator(policy, keys, remember, once);
         if (!it.isPublic()) {
             it.close();
             throw new IOException("it has a key of kty oct in it, which everyone may read");

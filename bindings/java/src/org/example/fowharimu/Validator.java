@@ -26,9 +26,6 @@ import java.util.function.Function;
  * }</pre>
  */
 public final class Validator implements Judging {
-    /** The most questions of one token that a policy and a key set may raise, unless the constructor is told of more. */
-    public static final int MOST_QUESTIONS = 64;
-
     private static final String[] CLAIMS = {null, "iss", "sub", "aud", "exp", "nbf", "iat", "jti"};
     private static final String[] PARTS = {null, "payload", "protected", "signature"};
 
@@ -41,7 +38,7 @@ public final class Validator implements Judging {
     private final boolean isPublic;
 
     /**
-     * Reads a policy and a key set under which one token raises at most 64 questions about public keys.
+     * Reads a policy and a key set.
      *
      * @param policy a JSON text, as the program {@code jwt} takes it
      * @param keys a JSON Web Key Set (RFC 7517, section 5)
@@ -49,20 +46,7 @@ public final class Validator implements Judging {
      * @throws UnsatisfiedLinkError where there is no library for this machine, or one of another interface
      */
     public Validator(byte[] policy, byte[] keys) throws Refused {
-        this(policy, keys, MOST_QUESTIONS);
-    }
-
-    /**
-     * Reads a policy and a key set.
-     *
-     * @param policy a JSON text, as the program {@code jwt} takes it
-     * @param keys a JSON Web Key Set (RFC 7517, section 5)
-     * @param mostQuestions how many questions about public keys one token may raise, up to 32,768; {@code max_calls} in the policy bounds them
-     * @throws Refused where one is refused
-     * @throws UnsatisfiedLinkError where there is no library for this machine, or one of another interface
-     */
-    public Validator(byte[] policy, byte[] keys, int mostQuestions) throws Refused {
-        this(policy, keys, mostQuestions, new Remember());
+        this(policy, keys, new Remember());
     }
 
     /**
@@ -70,13 +54,12 @@ public final class Validator implements Judging {
      *
      * @param policy a JSON text, as the program {@code jwt} takes it
      * @param keys a JSON Web Key Set (RFC 7517, section 5)
-     * @param mostQuestions how many questions about public keys one token may raise, up to 32,768; {@code max_calls} in the policy bounds them
      * @param remember how many tokens of how many octets are remembered
      * @throws Refused where one is refused
      * @throws UnsatisfiedLinkError where there is no library for this machine, or one of another interface
      */
-    public Validator(byte[] policy, byte[] keys, int mostQuestions, Remember remember) throws Refused {
-        this(policy, keys, mostQuestions, remember, Optional.empty());
+    public Validator(byte[] policy, byte[] keys, Remember remember) throws Refused {
+        this(policy, keys, remember, Optional.empty());
     }
 
     /**
@@ -89,7 +72,7 @@ public final class Validator implements Judging {
      * @throws UnsatisfiedLinkError where there is no library for this machine, or one of another interface
      */
     public Validator(byte[] policy, byte[] keys, Once once) throws Refused {
-        this(policy, keys, MOST_QUESTIONS, new Remember(), once);
+        this(policy, keys, new Remember(), once);
     }
 
     /**
@@ -97,18 +80,17 @@ public final class Validator implements Judging {
      *
      * @param policy a JSON text, as the program {@code jwt} takes it
      * @param keys a JSON Web Key Set (RFC 7517, section 5)
-     * @param mostQuestions how many questions about public keys one token may raise, up to 32,768; {@code max_calls} in the policy bounds them
      * @param remember how many tokens of how many octets are remembered
      * @param once where tokens are taken
      * @throws Refused where one is refused
      * @throws UnsatisfiedLinkError where there is no library for this machine, or one of another interface
      */
-    public Validator(byte[] policy, byte[] keys, int mostQuestions, Remember remember, Once once) throws Refused {
-        this(policy, keys, mostQuestions, remember, Optional.of(Objects.requireNonNull(once, "once")));
+    public Validator(byte[] policy, byte[] keys, Remember remember, Once once) throws Refused {
+        this(policy, keys, remember, Optional.of(Objects.requireNonNull(once, "once")));
     }
 
     /** As the others, with a memory of tokens that count once, where there is one. */
-    Validator(byte[] policy, byte[] keys, int mostQuestions, Remember remember, Optional<Once> once) throws Refused {
+    Validator(byte[] policy, byte[] keys, Remember remember, Optional<Once> once) throws Refused {
         Objects.requireNonNull(remember, "remember");
         this.once = once.orElse(null);
         Native.check();
@@ -119,10 +101,6 @@ public final class Validator implements Judging {
             throw documentRefused(fault[0], policy);
         }
         try {
-            int most = Native.mostQuestions(documents);
-            if (most > mostQuestions) {
-                throw new Refused(Refused.Kind.QUESTIONS, "TooManyQuestions", most + " and not " + mostQuestions, 0, 0);
-            }
             issuer = Text.of(Native.soleIssuer(documents));
             limit = Native.tokenLimit(documents);
             isPublic = Native.isPublic(documents);

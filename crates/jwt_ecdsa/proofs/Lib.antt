@@ -1,0 +1,2 @@
+-- ---- For prepared.rt
+pub mod Counted
