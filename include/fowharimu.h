@@ -887,8 +887,7 @@ typedef struct fow_next {
 uint32_t fow_url_of(const uint8_t *url, size_t url_len, bool allows_http, fow_url *parts);
 
 /* Writes the URL to which a redirection leads: `url` was asked, and `location` is the value of the first `Location` of its answer, or empty where it has
- * none: a whole URL or a reference (RFC 3986, section 5). Room for both and one octet more is enough. Where it isn't FOW_OK, what stands in `out` says
- * nothing.
+ * none: a whole URL or a reference (RFC 3986, section 5). Room for both and one octet more is enough.
  *
  * Proved: FOW_OK: `out` begins with the URL, which has *written octets and the scheme, host and port of the one that was asked. FOW_REFUSED: it leads
  * elsewhere, or to no URL, or has a part `.` or `..` between two slashes or at an end, as a segment of its path or as its host. */

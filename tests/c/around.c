@@ -225,18 +225,20 @@ static bool is_text(const char *text, const uint8_t *out, size_t written)
     return written == strlen(text) && memcmp(out, text, written) == 0;
 }
 
-/* Where redirections lead, and where metadata stand. */
+/* Where redirections lead, and where metadata stand; nothing is written where it fails. */
 static void check_redirections(void)
 {
-    uint8_t out[80];
+    uint8_t out[80] = { 0 }, before[80];
     size_t written = 0;
     const char *url = "https://a:8443/x/keys?y";
     CHECK(fow_redirected(at(url), strlen(url), at("new"), 3, out, sizeof out, &written) == FOW_OK && is_text("https://a:8443/x/new", out, written));
     CHECK(fow_redirected(at(url), strlen(url), at("//A:8443"), 8, out, sizeof out, &written) == FOW_OK && is_text("https://A:8443", out, written));
+    memcpy(before, out, sizeof out);
     CHECK(fow_redirected(at(url), strlen(url), at("/"), 1, out, 14, &written) == FOW_TOO_SHORT && written == 14);
     CHECK(fow_redirected(at(url), strlen(url), at("//a/"), 4, out, sizeof out, &written) == FOW_REFUSED && written == 14);
     CHECK(fow_redirected(at(url), strlen(url), at(""), 0, out, sizeof out, &written) == FOW_REFUSED);
     CHECK(fow_redirected(at(url), strlen(url), at("./new"), 5, out, sizeof out, &written) == FOW_REFUSED);
+    CHECK(memcmp(out, before, sizeof out) == 0);
     CHECK(fow_redirected(at("https://./a"), 11, at("b"), 1, out, sizeof out, &written) == FOW_OK && is_text("https://./b", out, written));
     CHECK(fow_redirected(at("https://./a"), 11, at("https://./b"), 11, out, sizeof out, &written) == FOW_REFUSED);
     CHECK(fow_redirected(at("x"), 1, at("/"), 1, out, sizeof out, &written) == FOW_REFUSED);
@@ -245,8 +247,10 @@ static void check_redirections(void)
     CHECK(is_text("https://a/x/.well-known/openid-configuration", out, written));
     CHECK(fow_metadata_url(FOW_ASKED_OAUTH, at(issuer), strlen(issuer), out, sizeof out, &written) == FOW_OK);
     CHECK(is_text("https://a/.well-known/oauth-authorization-server/x", out, written));
+    memcpy(before, out, sizeof out);
     CHECK(fow_metadata_url(FOW_ASKED_OAUTH, at("https://a?x"), 11, out, sizeof out, &written) == FOW_REFUSED);
     CHECK(fow_metadata_url(FOW_ASKED_OAUTH, at(issuer), strlen(issuer), out, 4, &written) == FOW_TOO_SHORT);
+    CHECK(memcmp(out, before, sizeof out) == 0);
 }
 
 /* The URL of keys, by metadata. */

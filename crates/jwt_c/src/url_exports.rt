@@ -6,7 +6,7 @@ ghost use Rattle.jwt_text.specs.ObjectText.{object_of};
 ghost use Rattle.jwt_urls.specs.declared.writing.Unwritten.TheVariants.{Refused, TooShort};
 ghost use Rattle.jwt_urls.specs.Urls.{url_where};
 ghost use Rattle.jwt_urls.specs.Written.{IsWritten};
-ghost use Rattle.jwt_urls.specs.References.{location_text, redirection};
+ghost use Rattle.jwt_urls.specs.References.{redirection};
 ghost use Rattle.jwt_urls.specs.Metadata.{metadata_url};
 ghost use Rattle.jwt_urls.specs.Answers.{IsNext, most_of};
 ghost use Rattle.jwt_handles.specs.Urls.{asked_of, metadata_issuer, metadata_keys, metadata_at, next_at, parts_of};
@@ -34,14 +34,11 @@ pub extern "C" fn fow_redirected(
     out: &mut [u8],
     written: &mut usize,
 ) -> u32
-    ensures url { result ≡ FOW_OK → IsWritten (location_text url.now location.now)
-        (redirection url.now location.now) (Ok written.new) out.old out.new }
-    ensures short { result ≡ FOW_TOO_SHORT → IsWritten (location_text url.now location.now)
-        (redirection url.now location.now) (Err TooShort) out.old out.new }
-    ensures refused { result ≡ FOW_REFUSED → IsWritten (location_text url.now location.now)
-        (redirection url.now location.now) (Err Refused) out.old out.new }
+    ensures url { result ≡ FOW_OK → IsWritten (redirection url.now location.now) (Ok written.new) out.old out.new }
+    ensures short { result ≡ FOW_TOO_SHORT → IsWritten (redirection url.now location.now) (Err TooShort) out.old out.new }
+    ensures refused { result ≡ FOW_REFUSED → IsWritten (redirection url.now location.now) (Err Refused) out.old out.new }
     ensures said { result ≢ FOW_OK → result ≢ FOW_TOO_SHORT → result ≡ FOW_REFUSED }
-    ensures unwritten { result ≢ FOW_OK → written.new ≡ written.old }
+    ensures unwritten { result ≢ FOW_OK → (out.new ≡ out.old) × (written.new ≡ written.old) }
 {
     urls::redirected(url, location, out, written)
 }
@@ -54,14 +51,11 @@ pub extern "C" fn fow_metadata_url(
     out: &mut [u8],
     written: &mut usize,
 ) -> u32
-    ensures url { result ≡ FOW_OK → IsWritten (metadata_url (metadata_at asked) issuer.now)
-        (metadata_url (metadata_at asked) issuer.now) (Ok written.new) out.old out.new }
-    ensures short { result ≡ FOW_TOO_SHORT → IsWritten (metadata_url (metadata_at asked) issuer.now)
-        (metadata_url (metadata_at asked) issuer.now) (Err TooShort) out.old out.new }
-    ensures refused { result ≡ FOW_REFUSED → IsWritten (metadata_url (metadata_at asked) issuer.now)
-        (metadata_url (metadata_at asked) issuer.now) (Err Refused) out.old out.new }
+    ensures url { result ≡ FOW_OK → IsWritten (metadata_url (metadata_at asked) issuer.now) (Ok written.new) out.old out.new }
+    ensures short { result ≡ FOW_TOO_SHORT → IsWritten (metadata_url (metadata_at asked) issuer.now) (Err TooShort) out.old out.new }
+    ensures refused { result ≡ FOW_REFUSED → IsWritten (metadata_url (metadata_at asked) issuer.now) (Err Refused) out.old out.new }
     ensures said { result ≢ FOW_OK → result ≢ FOW_TOO_SHORT → result ≡ FOW_REFUSED }
-    ensures unwritten { result ≢ FOW_OK → written.new ≡ written.old }
+    ensures unwritten { result ≢ FOW_OK → (out.new ≡ out.old) × (written.new ≡ written.old) }
 {
     urls::metadata_url(asked, issuer, out, written)
 }

@@ -6,7 +6,7 @@ ghost use Rattle.jwt_text.specs.ObjectText.{object_of};
 ghost use Rattle.jwt_urls.specs.declared.writing.Unwritten.TheVariants.{Refused, TooShort};
 ghost use Rattle.jwt_urls.specs.Urls.{url_where};
 ghost use Rattle.jwt_urls.specs.Written.{IsWritten};
-ghost use Rattle.jwt_urls.specs.References.{location_text, redirection};
+ghost use Rattle.jwt_urls.specs.References.{redirection};
 ghost use Rattle.jwt_urls.specs.Metadata.{metadata_url};
 ghost use Rattle.jwt_urls.specs.Answers.{IsNext, most_of};
 ghost use Rattle.jwt_handles.specs.Urls.{asked_of, metadata_issuer, metadata_keys, metadata_at, next_at, parts_of};
@@ -68,14 +68,11 @@ pub fn url_of(url: &[u8], allows_http: bool, parts: &mut FowUrl) -> u32
 
 /// Writes the URL to which a redirection leads at the front of `out`. `FOW_OK`; `FOW_TOO_SHORT`: `out` is too short; `FOW_REFUSED`: it isn't followed.
 pub fn redirected(url: &[u8], location: &[u8], out: &mut [u8], written: &mut usize) -> u32
-    ensures url { result ≡ FOW_OK → IsWritten (location_text url.now location.now)
-        (redirection url.now location.now) (Ok written.new) out.old out.new }
-    ensures short { result ≡ FOW_TOO_SHORT → IsWritten (location_text url.now location.now)
-        (redirection url.now location.now) (Err TooShort) out.old out.new }
-    ensures refused { result ≡ FOW_REFUSED → IsWritten (location_text url.now location.now)
-        (redirection url.now location.now) (Err Refused) out.old out.new }
+    ensures url { result ≡ FOW_OK → IsWritten (redirection url.now location.now) (Ok written.new) out.old out.new }
+    ensures short { result ≡ FOW_TOO_SHORT → IsWritten (redirection url.now location.now) (Err TooShort) out.old out.new }
+    ensures refused { result ≡ FOW_REFUSED → IsWritten (redirection url.now location.now) (Err Refused) out.old out.new }
     ensures said { result ≢ FOW_OK → result ≢ FOW_TOO_SHORT → result ≡ FOW_REFUSED }
-    ensures unwritten { result ≢ FOW_OK → written.new ≡ written.old }
+    ensures unwritten { result ≢ FOW_OK → (out.new ≡ out.old) × (written.new ≡ written.old) }
 {
     match jwt_urls::redirected(url, location, out) {
         Ok(size) => {
@@ -89,14 +86,11 @@ pub fn redirected(url: &[u8], location: &[u8], out: &mut [u8], written: &mut usi
 
 /// Writes the URL of the metadata of an issuer at the front of `out`. `FOW_OK`; `FOW_TOO_SHORT`: `out` is too short; `FOW_REFUSED`: the issuer has none.
 pub fn metadata_url(asked: u32, issuer: &[u8], out: &mut [u8], written: &mut usize) -> u32
-    ensures url { result ≡ FOW_OK → IsWritten (metadata_url (metadata_at asked) issuer.now)
-        (metadata_url (metadata_at asked) issuer.now) (Ok written.new) out.old out.new }
-    ensures short { result ≡ FOW_TOO_SHORT → IsWritten (metadata_url (metadata_at asked) issuer.now)
-        (metadata_url (metadata_at asked) issuer.now) (Err TooShort) out.old out.new }
-    ensures refused { result ≡ FOW_REFUSED → IsWritten (metadata_url (metadata_at asked) issuer.now)
-        (metadata_url (metadata_at asked) issuer.now) (Err Refused) out.old out.new }
+    ensures url { result ≡ FOW_OK → IsWritten (metadata_url (metadata_at asked) issuer.now) (Ok written.new) out.old out.new }
+    ensures short { result ≡ FOW_TOO_SHORT → IsWritten (metadata_url (metadata_at asked) issuer.now) (Err TooShort) out.old out.new }
+    ensures refused { result ≡ FOW_REFUSED → IsWritten (metadata_url (metadata_at asked) issuer.now) (Err Refused) out.old out.new }
     ensures said { result ≢ FOW_OK → result ≢ FOW_TOO_SHORT → result ≡ FOW_REFUSED }
-    ensures unwritten { result ≢ FOW_OK → written.new ≡ written.old }
+    ensures unwritten { result ≢ FOW_OK → (out.new ≡ out.old) × (written.new ≡ written.old) }
 {
     let metadata = if asked == 2 {
         Metadata::OAuth

@@ -103,7 +103,7 @@ fn led<'a>(url: &[u8], location: &[u8], out: &'a mut [u8]) -> Result<&'a [u8], U
 
 #[test]
 fn a_redirection_leads_within_its_origin(rt: HostRuntime) {
-    let rows: [(&[u8], &[u8], &[u8]); 15] = [
+    let rows: [(&[u8], &[u8], &[u8]); 16] = [
         (b"https://a/k", b"https://a/new", b"https://a/new"),
         (
             b"https://a/k",
@@ -122,6 +122,7 @@ fn a_redirection_leads_within_its_origin(rt: HostRuntime) {
         (b"https://a", b"new", b"https://a/new"),
         (b"https://a?x", b"new", b"https://a/new"),
         (b"https://a/x/y?z", b"?w", b"https://a/x/y?w"),
+        (b"https://a/x%2F?z", b"?%3F", b"https://a/x%2F?%3F"),
         (
             b"https://a/x",
             b"/.well-known/..x?../.",
@@ -136,7 +137,7 @@ fn a_redirection_leads_within_its_origin(rt: HostRuntime) {
 
 #[test]
 fn a_redirection_elsewhere_is_refused(rt: HostRuntime) {
-    let rows: [(&[u8], &[u8]); 24] = [
+    let rows: [(&[u8], &[u8]); 26] = [
         (b"https://a/k", b""),
         (b"https://a/k", b"https://b/k"),
         (b"https://a/k", b"https://a.b/k"),
@@ -157,6 +158,8 @@ fn a_redirection_elsewhere_is_refused(rt: HostRuntime) {
         (b"https://a/k", b"/a b"),
         (b"https://a/k", b"\\\\b\\k"),
         (b"https://a/k", b"/x\\y"),
+        (b"https://a/k", b"new%4"),
+        (b"https://a/k", b"//a/new%"),
         (b"https://a/x/k", b"../new"),
         (b"https://a/x/k", b"./new"),
         (b"https://a/x/k", b"/x/.."),
@@ -166,6 +169,11 @@ fn a_redirection_elsewhere_is_refused(rt: HostRuntime) {
     for (url, location) in rows.iter() {
         assert_eq!(rt; led(url, location, &mut out), Err(Unwritten::Refused));
     }
+    assert_eq!(rt;
+        led(b"https://a/k", b"//b/new", &mut out[..12]),
+        Err(Unwritten::Refused)
+    );
+    assert_eq!(rt; out, [0; 64]);
     assert_eq!(rt;
         led(b"https://a/k", b"/new", &mut out[..12]),
         Err(Unwritten::TooShort)

@@ -1,4 +1,9 @@
 -- ---- For url.rt and references.rt
 pub mod Steps
+-- ---- For references.rt
+pub mod Origins
+pub mod Fronts
+pub mod Seams
+pub mod Parts
 -- ---- For references.rt and metadata.rt
 pub mod Choices

@@ -61,11 +61,6 @@ abbrev pub is_within : Url → List ℕ → List ℕ → Option Url → Bool
 is_within at url next None = false
 is_within at url next (Some at') = same_origin at url at' next
 
--- the text that the location gives, whether it is followed or not; a location of what is no URL gives none
-abbrev pub text_referred : Option Url → List ℕ → List ℕ → Option (List ℕ)
-text_referred None url location = None
-text_referred (Some at) url location = Some (referred at url location)
-
 -- the URL that is asked next
 abbrev pub followed : Option Url → List ℕ → List ℕ → Option (List ℕ)
 followed None url location = None
@@ -73,10 +68,6 @@ followed (Some at) url location =
     if is_reference location && is_within at url (referred at url location) (url_where true (referred at url location))
     then Some (referred at url location)
     else None
-
--- the text that a location gives, whether it is followed or not
-unfoldable pub location_text : List ℕ → List ℕ → Option (List ℕ)
-location_text url location = text_referred (url_where true url) url location
 
 -- the URL to which a redirection leads; none, where it isn't followed
 unfoldable pub redirection : List ℕ → List ℕ → Option (List ℕ)

@@ -3,12 +3,11 @@ use Rattle.std.specs.Prelude.{◌≡◌, ◌<◌, ◌≤◌, ◌++◌, ℕ, List
 use Rattle.jwt_urls.specs.declared.writing.Unwritten.{Unwritten}
 use Rattle.jwt_urls.specs.declared.writing.Unwritten.TheVariants.{TooShort, Refused}
 
--- the text stands at the front, and what stood behind it still does; there is too little room for it, and nothing is written; or there is no text. The room is
--- asked of the whole text, which may be there where the other isn't
-abbrev pub IsWritten : Option (List ℕ) → Option (List ℕ) → Result ℕ Unwritten → List ℕ → List ℕ → Type 0
-IsWritten whole text (Ok size) old new = (it : List ℕ) × (text ≡ Some it) × (size ≡ length it) × (new ≡ it ++ drop (length it) old)
-IsWritten whole text (Err TooShort) old new = (it : List ℕ) × (whole ≡ Some it) × (length old < length it) × (new ≡ old)
-IsWritten whole text (Err Refused) old new = (text ≡ None) × (length new ≡ length old)
+-- the text stands at the front, and what stood behind it still does; there is too little room for it; or there is no text. Nothing is written then
+abbrev pub IsWritten : Option (List ℕ) → Result ℕ Unwritten → List ℕ → List ℕ → Type 0
+IsWritten text (Ok size) old new = (it : List ℕ) × (text ≡ Some it) × (size ≡ length it) × (new ≡ it ++ drop (length it) old)
+IsWritten text (Err TooShort) old new = (it : List ℕ) × (text ≡ Some it) × (length old < length it) × (new ≡ old)
+IsWritten text (Err Refused) old new = (text ≡ None) × (new ≡ old)
 
 -- ---- Cited by contracts of private functions alone
 

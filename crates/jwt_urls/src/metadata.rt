@@ -25,7 +25,7 @@ impl Metadata {
     /// `TooShort`: it has more octets than `out`. `Refused`: the issuer is no URL, or has a query (RFC 8414, section 2). Nothing is written then.
     #[tactic(auto, unfolding(crate::specs::Metadata::metadata_url))]
     pub fn write_url(self, issuer: &[u8], out: &mut [u8]) -> Result<usize, Unwritten>
-        ensures { IsWritten (metadata_url self issuer.now) (metadata_url self issuer.now) result out.old out.new }
+        ensures { IsWritten (metadata_url self issuer.now) result out.old out.new }
     {
         let Some(at) = url_of(issuer, true) else {
             return Err(Unwritten::Refused);

@@ -1,39 +1,68 @@
-ghost use Rattle.std.specs.Prelude.{◌≡◌, ◌<◌, ◌≤◌, ◌+◌, length, true, Some};
-ghost use Rattle.jwt_urls.specs.Urls.{IsPlaced, host_of, same_origin, same_scheme, url_where};
-ghost use Rattle.jwt_urls.specs.References.{ends_at, followed, folder_len, has_dots, has_dots_behind, is_dots, is_reference, is_whole, is_within, kept_len, location_text, needs_slash, path_of, redirection, referred, slash_where};
+ghost use Rattle.std.specs.Prelude.{◌≡◌, ◌<◌, ◌≤◌, ◌+◌, ◌==◌, ◌&&◌, length, slice_index, take, true, Some};
+ghost use Rattle.std.specs.Str.{str_eq_ignore_ascii_case};
+ghost use Rattle.jwt_urls.specs.Urls.{IsPlaced, behind_host, host_len, host_of, is_laid, port_of, same_origin, same_scheme, url_where};
+ghost use Rattle.jwt_urls.specs.References.{ends_at, followed, folder_len, has_dots, has_dots_behind, is_dots, is_reference, is_whole, is_within, kept_len, needs_slash, path_of, redirection, referred, slash_where};
 ghost use Rattle.jwt_urls.specs.Written.{IsPut, IsWritten};
 
 use crate::kind::Kind;
-use crate::url::{Url, stands, url_of};
+use crate::url::{Url, is_of_target, parts_behind, stands, url_of};
 use crate::writing::{Unwritten, put};
 
 /// Writes the URL to which a redirection leads at the front of `out`, and gives the number of its octets: `url` was asked, and `location` is the value of the
 /// `Location` that it answered, a whole URL or a reference (RFC 3986, section 5). It leads within scheme, host and port.
 ///
-/// `TooShort`: it has more octets than `out`, in which nothing is written then; room for both and one octet more is enough. `Refused`: it isn't followed, since
-/// it leads elsewhere or to no URL, or has a segment `.` or `..`; what stands in `out` then says nothing.
-#[tactic(auto, unfolding(crate::specs::References::location_text, crate::specs::References::redirection))]
+/// `Refused`: it isn't followed, since it leads elsewhere or to no URL, or has a segment `.` or `..`. `TooShort`: it has more octets than `out`; room for both
+/// and one octet more is enough. Nothing is written then.
+#[tactic(auto, unfolding(crate::specs::References::redirection))]
 pub fn redirected(url: &[u8], location: &[u8], out: &mut [u8]) -> Result<usize, Unwritten>
-    ensures { IsWritten (location_text url.now location.now) (redirection url.now location.now) result out.old out.new }
+    ensures { IsWritten (redirection url.now location.now) result out.old out.new }
 {
     let Some(at) = url_of(url, true) else {
         return Err(Unwritten::Refused);
     };
-    redirected_from(at, url, location, out)
+    if !is_reference(location) || !leads_within(at, url, location) {
+        return Err(Unwritten::Refused);
+    }
+    match refer(at, url, location, out) {
+        Some(size) => Ok(size),
+        None => Err(Unwritten::TooShort),
+    }
 }
 
-/// The same from a URL by its parts.
-fn redirected_from(at: Url, url: &[u8], location: &[u8], out: &mut [u8]) -> Result<usize, Unwritten>
-    requires { IsPlaced at url.now }
-    ensures { IsWritten (Some (referred at url.now location.now)) (followed (Some at) url.now location.now) result out.old out.new }
+/// Whether what the location gives is a URL of the same origin, by its parts: nothing is written yet.
+fn leads_within(at: Url, url: &[u8], location: &[u8]) -> bool
+    requires placed { IsPlaced at url.now }
+    requires parts { url_where true url.now ≡ Some at }
+    ensures { result ≡ is_within at url.now (referred at url.now location.now) (url_where true (referred at url.now location.now)) }
 {
-    let Some(size) = refer(at, url, location, out) else {
-        return Err(Unwritten::TooShort);
-    };
-    if is_reference(location) && is_within(at, url, &out[..size]) {
-        Ok(size)
+    if is_whole(location) {
+        is_within(at, url, location)
+    } else if has_host(location) {
+        is_of_host(at, url, &location[2..])
     } else {
-        Err(Unwritten::Refused)
+        is_of_target(location)
+    }
+}
+
+/// Whether it has a host and no scheme: two slashes stand at the front.
+fn has_host(location: &[u8]) -> bool
+    ensures { result ≡ (slice_index location.now 0 == 47 && slice_index location.now 1 == 47) }
+{
+    stands(location, 0, b'/') && stands(location, 1, b'/')
+}
+
+/// Whether host and port stand at the front, which are those of the URL, and path and query behind.
+fn is_of_host(at: Url, url: &[u8], octets: &[u8]) -> bool
+    requires { IsPlaced at url.now }
+    ensures { result ≡ (is_laid octets.now && at.port == port_of at.is_https (behind_host octets.now)
+        && str_eq_ignore_ascii_case (host_of at url.now) (take (host_len octets.now) octets.now)) }
+{
+    match parts_behind(octets, at.is_https) {
+        Some(other) => {
+            at.port == other.port
+                && host_of(at, url).eq_ignore_ascii_case(&octets[..other.host_end - other.host])
+        }
+        None => false,
     }
 }
 

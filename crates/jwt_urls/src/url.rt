@@ -1,7 +1,7 @@
 ghost use Rattle.std.specs.Prelude.{◌≡◌, ◌<◌, ◌≤◌, ◌+◌, ◌==◌, ◌&&◌, min, IfSome, None, Some, length, slice_index, true, false};
 ghost use Rattle.std.specs.List.{list_all};
 ghost use Rattle.std.specs.Char.{digit_value, is_ascii_hexdigit};
-ghost use Rattle.jwt_urls.specs.declared.kind.Kind.TheVariants.{Digit};
+ghost use Rattle.jwt_urls.specs.declared.kind.Kind.TheVariants.{Digit, Target};
 ghost use Rattle.std.specs.Str.Parse.{digits_value};
 ghost use Rattle.jwt_urls.specs.Urls.{IsPlaced, are_escapes, is_of, has_scheme, host_len, is_laid, is_port, is_target, parts_behind, port_len, port_of, scheme_of, url_of_scheme, url_where};
 
@@ -82,7 +82,7 @@ fn laid_out(url: &[u8], https: bool) -> Option<Url>
 }
 
 /// The parts of a URL, from what stands behind its scheme.
-fn parts_behind(octets: &[u8], https: bool) -> Option<Url>
+pub(crate) fn parts_behind(octets: &[u8], https: bool) -> Option<Url>
     ensures some { IfSome result (λ it. (is_laid octets.now ≡ true) × (it ≡ parts_behind https octets.now)) }
     ensures none { result ≡ None → is_laid octets.now ≡ false }
     ensures placed { IfSome result (λ it. (it.host ≡ length (scheme_of https)) × (it.host ≤ it.host_end) × (it.host_end ≤ it.target)
@@ -174,8 +174,14 @@ fn is_target(octets: &[u8]) -> bool
     ensures { result ≡ is_target octets.now }
 {
     (octets.is_empty() || stands(octets, 0, b'/') || stands(octets, 0, b'?'))
-        && Kind::Target.fills(octets)
-        && are_escapes(octets)
+        && is_of_target(octets)
+}
+
+/// Whether path and query may have these octets.
+pub(crate) fn is_of_target(octets: &[u8]) -> bool
+    ensures { result ≡ (list_all (is_of Target) octets.now && are_escapes octets.now) }
+{
+    Kind::Target.fills(octets) && are_escapes(octets)
 }
 
 /// Whether each percent sign has two hexadecimal digits behind it.
