@@ -1,8 +1,8 @@
 -- Path and query that are put together of what is kept of a URL and of a location.
-use Rattle.std.proofs.Common.{◌≡◌, ◌⊎◌, ◌≤◌, ◌<◌, ◌+◌, ◌-◌, ◌==◌, ◌&&◌, ◌||◌, ◌++◌, ℕ, List, [], ◌∷◌, Bool, true, false, cond, not, length, drop, take, slice_index, arith, refl, sym, suc, ap, ◌∙◌, inl, inr, true≢false, reverse, add-zero}
-use Rattle.std.proofs.lemmas.List.{take-append-drop, take_more, length-reverse, get_or-reverse, get_or-drop}
+use Rattle.std.proofs.Common.{◌≡◌, ◌⊎◌, ◌≤◌, ◌<◌, ◌+◌, ◌-◌, ◌==◌, ◌&&◌, ◌||◌, ◌++◌, ℕ, List, [], ◌∷◌, Bool, true, false, cond, not, length, drop, take, get_or, slice_index, arith, refl, sym, suc, ap, ◌∙◌, inl, inr, true≢false, reverse, add-zero}
+use Rattle.std.proofs.lemmas.List.{take-append-drop, take_more, length-drop, length-reverse, get_or-reverse, get_or-drop}
 use Rattle.std.proofs.lemmas.List.Folds.{list_all-append}
-use Rattle.std.proofs.lemmas.List.Sums.{prefix_len_passes, prefix_len_stops}
+use Rattle.std.proofs.lemmas.List.Sums.{list_all-from_AllPass, prefix_len_passes, prefix_len_stops, suffix_len-le-length}
 use Rattle.std.proofs.lemmas.Bool.{and_parts, and_from, eqb-true, not-false, ne_eqb, cases_lt}
 use Rattle.std.specs.List.{list_all, suffix_len}
 use Rattle.std.specs.Char.{is_ascii_hexdigit}
@@ -119,6 +119,20 @@ folder_some (c ∷ path) begins =
           let at : slice_index (reverse (c ∷ path)) n ≡ 47 = get_or-reverse (c ∷ path) n 0 (omega arith) ∙ ap (λ k. slice_index (c ∷ path) k) place ∙ begins in
           absurd (true≢false (sym passes ∙ ap (is_of Segment) at))
     ]
+
+-- and behind it stands the last segment
+pub segment_behind : (path : List ℕ) → list_all (is_of Segment) (drop (folder_len path) path) ≡ true
+segment_behind path =
+    let n = folder_len path in
+    let j = suffix_len (is_of Segment) path in
+    let few : j ≤ length path = suffix_len-le-length (is_of Segment) path in
+    list_all-from_AllPass (is_of Segment) (drop n path) (λ k d within.
+    let inner : k < length path - n = omega (arith, within, length-drop n path) in
+    let back = length path - 1 - (n + k) in
+    let less : back < length path = omega (arith, inner) in
+    let passes = prefix_len_passes (is_of Segment) (reverse path) back d (omega (arith, inner, few)) in
+    let place : length path - 1 - back ≡ n + k = omega (arith, inner) in
+    ap (is_of Segment) (get_or-drop n path k d ∙ ap (λ m. get_or path m d) (sym place) ∙ sym (get_or-reverse path back d less)) ∙ passes)
 
 -- all that stands before it is the slash and what stands before that
 pub folder_front : (path : List ℕ) → 1 ≤ folder_len path → take (folder_len path) path ≡ take (folder_len path - 1) path ++ 47 ∷ []

@@ -10,3 +10,7 @@ pub mod References
 pub mod Metadata
 -- what follows on an answer
 pub mod Answers
+-- ---- What laws alone cite
+
+-- what a location gives, in the words of RFC 3986
+pub mod Laws

@@ -5,6 +5,7 @@
 
 mod answers;
 mod kind;
+pub mod laws;
 mod metadata;
 mod references;
 mod url;
