@@ -32,6 +32,7 @@ SENTENCES = {
     "true exactly where that is so; false where nothing is held": ["public", "none"],
     "true exactly where each octet is a printable one": ["quotable"],
     "the status and the challenge of each scheme are those of the outcome": ["reply"],
+    "each 401 has at least one challenge": ["reply"],
     "of any other status it is FOW_UNANSWERED": ["outcome", "known"],
     "nothing has happened so far, and the times are these": ["stands", "times"],
     "keys are named exactly where their fetch began less than max_age ago": ["keys", "stands"],

@@ -755,7 +755,8 @@ typedef struct fow_reply {
  * fow_credentials found, FOW_NO_SCHEME where it found none.
  *
  * Proved: the status and the challenge of each scheme are those of the outcome (RFC 6750, section 3.1; RFC 9449, section 7.1), 200 comes for FOW_ADMITTED
- * alone, a scheme that isn't taken has no challenge, and an error of a token or a proof stands in the challenge of the scheme that was shown. */
+ * alone, a scheme that isn't taken has no challenge, and an error of a token or a proof stands in the challenge of the scheme that was shown. Each 401 has
+ * at least one challenge (RFC 9110, section 15.5.2): where no scheme is taken, 500 comes in its place. */
 void fow_reply_to(uint32_t schemes, uint32_t shown, uint32_t outcome, fow_reply *reply);
 
 /* The outcome of a request by what fow_possession_judge, fow_possession_fresh or fow_possession_take answered of its proof; `fault` is that of

@@ -91,6 +91,14 @@ static void check_replies(void)
         check_challenge(FOW_BEARER, alone.bearer, rows[row].alone);
         check_challenge(FOW_BEARER, both.bearer, rows[row].bearer);
         check_challenge(FOW_DPOP, both.dpop, rows[row].dpop);
+        /* where no scheme is taken there is no challenge, and so no 401 (RFC 9110, section 15.5.2) */
+        static const uint32_t no_schemes[] = { FOW_NO_SCHEME, 4, UINT32_MAX };
+        for (size_t at = 0; at < sizeof no_schemes / sizeof *no_schemes; at++) {
+            fow_reply none = { 7, 7, 7 };
+            fow_reply_to(no_schemes[at], FOW_BEARER, rows[row].outcome, &none);
+            CHECK(none.status == (rows[row].status == 401 ? 500 : rows[row].status));
+            CHECK(none.bearer == FOW_NO_CHALLENGE && none.dpop == FOW_NO_CHALLENGE);
+        }
     }
     /* of no scheme there is no challenge, and of an unknown number none */
     check_challenge(FOW_NO_SCHEME, FOW_REALM, "");

@@ -6,3 +6,7 @@ pub mod Spelled
 pub mod Replies
 -- the text of a challenge
 pub mod Challenges
+-- ---- What laws alone cite
+
+-- that each 401 has a challenge
+pub mod Laws

@@ -1,5 +1,5 @@
 -- What is answered to a request, and when.
-use Rattle.std.specs.Prelude.{◌≡◌, ◌⊎◌, ◌<◌, ◌↔◌, ℕ, List, Bool, true, false, Option, Some, None}
+use Rattle.std.specs.Prelude.{◌≡◌, ◌⊎◌, ◌<◌, ◌↔◌, ◌||◌, ℕ, List, Bool, true, false, Option, Some, None}
 use Rattle.jwt_request.specs.declared.scheme.Scheme.{Scheme}
 use Rattle.jwt_request.specs.declared.scheme.Scheme.TheVariants.{Bearer, Dpop}
 use Rattle.jwt_request.specs.declared.scheme.Schemes.{Schemes}
@@ -21,18 +21,23 @@ IsAsked schemes count value (Some found) = ((count ≡ 0) × (found ≡ NoScheme
 abbrev pub IsRefusal : Outcome → Type 0
 IsRefusal outcome = (outcome ≡ Malformed) ⊎ (outcome ≡ Refused) ⊎ (outcome ≡ ProofRefused) ⊎ (outcome ≡ NonceWanted)
 
--- the status, in the standards' terms (RFC 6750, section 3.1; RFC 9449, section 7.1; RFC 9110, section 15)
-pub record IsStatus (outcome : Outcome) (status : ℕ) : Type 0 where
+-- whether a service takes any scheme
+abbrev pub takes_any : Schemes → Bool
+takes_any schemes = schemes.bearer || schemes.dpop
+
+-- the status, in the standards' terms, by whether the service takes any scheme (RFC 6750, section 3.1; RFC 9449, section 7.1; RFC 9110, section 15)
+pub record IsStatus (taken : Bool) (outcome : Outcome) (status : ℕ) : Type 0 where
   -- a request is let through where its token is accepted, and else never
   pub through : (status ≡ 200) ↔ (outcome ≡ Accepted)
   -- who may get on by another token or proof is told so: none was shown, or it is refused
-  pub unauthorized : (status ≡ 401) ↔ ((outcome ≡ Absent) ⊎ IsRefusal outcome)
+  pub unauthorized : (status ≡ 401) ↔ ((taken ≡ true) × ((outcome ≡ Absent) ⊎ IsRefusal outcome))
   -- the token is accepted, and grants too little
   pub forbidden : (status ≡ 403) ↔ ((outcome ≡ ScopeMissing) ⊎ (outcome ≡ Denied))
   pub bad : (status ≡ 400) ↔ (outcome ≡ Several)
   -- nothing is said of the token
   pub unavailable : (status ≡ 503) ↔ (outcome ≡ KeysTooOld)
-  pub failed : (status ≡ 500) ↔ (outcome ≡ Unanswered)
+  -- so it is where no scheme is taken: no other token or proof may get on, and there is no challenge for it
+  pub failed : (status ≡ 500) ↔ ((outcome ≡ Unanswered) ⊎ ((taken ≡ false) × ((outcome ≡ Absent) ⊎ IsRefusal outcome)))
 
 -- the challenge of a scheme, by whether the service takes it, and whether the request showed it
 pub record IsChallenge (taken shown : Bool) (outcome : Outcome) (challenge : Challenge) : Type 0 where
@@ -56,6 +61,6 @@ is_shown _ _ = false
 
 -- the status, and each scheme's challenge (RFC 9449, section 7.2)
 pub record IsReply (schemes : Schemes) (shown : Option Scheme) (outcome : Outcome) (reply : Reply) : Type 0 where
-  pub status : IsStatus outcome reply.status
+  pub status : IsStatus (takes_any schemes) outcome reply.status
   pub bearer : IsChallenge schemes.bearer (is_shown shown Bearer) outcome reply.bearer
   pub dpop : IsChallenge schemes.dpop (is_shown shown Dpop) outcome reply.dpop

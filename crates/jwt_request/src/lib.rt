@@ -6,6 +6,7 @@
 mod challenge;
 mod credentials;
 mod kind;
+pub mod laws;
 mod replies;
 mod scheme;
 

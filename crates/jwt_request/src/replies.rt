@@ -55,11 +55,13 @@ pub fn credentials_in(schemes: Schemes, count: usize, value: &[u8]) -> Option<Cr
 }
 
 /// What is answered to a request: by the schemes that the service takes, the one that [`credentials_of`] found, and what is known of the request.
+///
+/// Each 401 has a challenge ([`challenged`](crate::laws::challenged)): a service that takes no scheme answers 500 in its place.
 pub fn reply_to(schemes: Schemes, shown: Option<Scheme>, outcome: Outcome) -> Reply
     ensures { IsReply schemes shown outcome result }
 {
     Reply {
-        status: outcome.status(),
+        status: outcome.status(schemes.bearer || schemes.dpop),
         bearer: outcome.challenge(schemes.bearer, shows(shown, Scheme::Bearer)),
         dpop: outcome.challenge(schemes.dpop, shows(shown, Scheme::Dpop)),
     }
@@ -76,9 +78,9 @@ fn shows(shown: Option<Scheme>, scheme: Scheme) -> bool
 }
 
 impl Outcome {
-    /// The status of the answer.
-    fn status(self) -> u16
-        ensures { IsStatus self result }
+    /// The status of the answer, by whether the service takes any scheme.
+    fn status(self, is_taken: bool) -> u16
+        ensures { IsStatus is_taken self result }
     {
         match self {
             Outcome::Accepted => 200,
@@ -87,7 +89,7 @@ impl Outcome {
             | Outcome::Malformed
             | Outcome::Refused
             | Outcome::ProofRefused
-            | Outcome::NonceWanted => 401,
+            | Outcome::NonceWanted => if is_taken { 401 } else { 500 },
             Outcome::ScopeMissing | Outcome::Denied => 403,
             Outcome::KeysTooOld => 503,
             Outcome::Unanswered => 500,

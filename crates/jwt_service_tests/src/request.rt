@@ -199,12 +199,15 @@ fn each_outcome_has_its_reply(rt: HostRuntime) {
             (BOTH, None, other, other),
             (BEARER, None, other, none),
             (BEARER, Some(Scheme::Dpop), other, none),
-            (NEITHER, Some(Scheme::Bearer), none, none),
         ];
         for (schemes, shown, bearer, dpop) in rows.iter() {
             let reply = reply_to(*schemes, *shown, *outcome);
             assert_eq!(rt; reply, reply_of(status, *bearer, *dpop));
         }
+        // a 401 would have a challenge, and where no scheme is taken there is none
+        let failed = if status == 401 { 500 } else { status };
+        let reply = reply_to(NEITHER, Some(Scheme::Bearer), *outcome);
+        assert_eq!(rt; reply, reply_of(failed, none, none));
     }
 }
 
