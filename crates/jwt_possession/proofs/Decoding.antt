@@ -3,7 +3,7 @@ use Rattle.std.proofs.Common.{◌≡◌, ℕ, ◌==◌, Bool, true, false, cond,
 use Rattle.jwt_possession.specs.Uris.{decoded, normal_triplet}
 
 -- an octet that is no percent sign stands for itself
-plain : (a : ℕ) (rest : List ℕ) → (a == 37) ≡ false → decoded (a ∷ rest) ≡ option_map (λ more. a ∷ more) (decoded rest)
+pub plain : (a : ℕ) (rest : List ℕ) → (a == 37) ≡ false → decoded (a ∷ rest) ≡ option_map (λ more. a ∷ more) (decoded rest)
 plain a [] differs = rw differs refl
 plain a (b ∷ []) differs = rw differs (by (b == 37))
   where

@@ -6,7 +6,7 @@ use Rattle.std.proofs.lemmas.List.Sums.{fails_before_first}
 use Rattle.std.proofs.lemmas.List.Elements.{All-from_get_or}
 use Rattle.jwt_possession.specs.Uris.{ended, gone_on, left}
 
-some_part : (p : ℕ → Bool) (xs : List ℕ) → (x : List ℕ) × (rest : List (List ℕ)) × (slice_split p xs ≡ x ∷ rest)
+pub some_part : (p : ℕ → Bool) (xs : List ℕ) → (x : List ℕ) × (rest : List (List ℕ)) × (slice_split p xs ≡ x ∷ rest)
 some_part p [] = ([], [], refl)
 some_part p (y ∷ ys) =
     let more = some_part p ys in

@@ -1,9 +1,14 @@
--- That no octets are a proof and have a fault.
-use Rattle.std.specs.Prelude.{◌≢◌, ℕ, ℤ, List}
+-- That no octets are a proof and have a fault, and that a policy for proofs accepts none past its last moment.
+use Rattle.std.specs.Prelude.{◌≡◌, ◌≢◌, ◌≤◌, ℕ, ℤ, List, codes, None, Some}
 use Rattle.serde_json.specs.Data.{Members}
 use Rattle.jwt_mac.specs.Verifying.{Meaning}
 use Rattle.jwt_keys.specs.Keys.{KeyParts}
 use Rattle.jwt_policy.specs.Settings.{Settings}
+use Rattle.jwt_policy.specs.Checks.{check_of}
+use Rattle.jwt_text.specs.Members.{whole_at}
+use Rattle.jwt_once.specs.Accepted.{seconds}
+use Rattle.jwt_possession.specs.ProofPolicies.{IsProofPolicy}
+use Rattle.jwt_possession.specs.Possessions.{last_moment}
 use Rattle.jwt_verify.specs.Reports.{FoundMemory}
 use Rattle.jwt_verify.specs.declared.report.Fault.TheVariants as token_fault
 use Rattle.jwt_verify.specs.declared.report.Verdict.TheVariants.{Refused}
@@ -25,3 +30,8 @@ IsOfOctets OutOfMemory = ⊥
 abbrev pub ProofsHaveNoFault : Type 0
 ProofsHaveNoFault = (policy : Settings) (verifiers : List Meaning) (now : ℤ) (request : Request) (octets : List ℕ) (key : KeyParts) (claims : Members) (fault : ProofFault)
     → IsProof policy verifiers now request octets key claims → IsOfOctets fault → ¬ IsProofFault policy verifiers now request octets fault
+
+-- at a moment at which a policy for proofs accepts claims, their last moment hasn't passed: what a memory lets go is too old for that policy
+abbrev pub ProofsInTime : Type 0
+ProofsInTime = (policy : Settings) (claims : Members) (now iat : ℤ) → IsProofPolicy policy → check_of policy claims now ≡ None → whole_at (codes "iat") claims ≡ Some iat
+    → seconds now ≤ last_moment policy claims

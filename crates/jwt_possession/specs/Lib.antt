@@ -6,7 +6,7 @@ pub mod ProofPolicies
 pub mod HeaderKey
 -- how an access token is bound
 pub mod Bindings
--- one form of each URI of HTTP, without query and fragment
+-- one form of each URI that begins with `http://` or `https://` and has a host, without query and fragment
 pub mod Uris
 -- what belongs to this request, and the steps of a proof's claims that need it
 pub mod Requests
@@ -22,5 +22,7 @@ pub mod Nonces
 pub mod FaultNames
 -- ---- What laws alone cite
 
--- that no octets are a proof and have a fault
+-- that no octets are a proof and have a fault, and that a policy for proofs accepts none past its last moment
 pub mod Laws
+-- laws of normal forms, and the examples of RFC 3986
+pub mod UriLaws

@@ -1,4 +1,4 @@
--- One form of each URI of HTTP (RFC 3986, sections 6.2.2 and 6.2.3), without query and fragment (RFC 9449, section 4.3, step 9).
+-- One form of each URI that begins with `http://` or `https://` and has a host, without query and fragment (RFC 3986, sections 6.2.2 and 6.2.3; RFC 9449, section 4.3, step 9); a URI with the name of a user has none.
 use Rattle.std.specs.Prelude.{ℕ, ◌+◌, ◌-◌, ◌*◌, ◌/◌, ◌%◌, ◌==◌, Bool, true, not, ◌&&◌, ◌||◌, List, [], ◌∷◌, ◌++◌, length, take, drop, map, min, Option, Some, None, option_map, option_and_then, codes, nat_le, nat_lt, if◌then◌else◌}
 use Rattle.std.specs.List.{list_any, list_all, flat_map, slice_split, before_first, position_or_len}
 use Rattle.std.specs.Str.{bytes_eq, str_eq_ignore_ascii_case}
@@ -122,7 +122,8 @@ normal_of (Some rest) plain = normal_behind (codes "https://") (codes ":443") re
 normal_of None (Some rest) = normal_behind (codes "http://") (codes ":80") rest
 normal_of None None = None
 
--- the normal form of a text that is a URI of HTTP; none of any other
+-- the normal form: none where the text doesn't begin with `http://` or `https://`, where a host is lacking or a user's name stands before it, where the port is no
+-- number, or where a percent sign in host or path has no two digits behind it
 unfoldable pub normal_uri : List ℕ → Option (List ℕ)
 normal_uri uri = normal_of (behind (codes "https://") (without_query uri)) (behind (codes "http://") (without_query uri))
 

@@ -1,7 +1,9 @@
 //! Laws of the definitions: each function does nothing, and its contract holds of all octets.
 
-ghost use Rattle.jwt_possession.specs.Laws.{ProofsHaveNoFault};
+ghost use Rattle.jwt_possession.specs.Laws.{ProofsHaveNoFault, ProofsInTime};
+ghost use Rattle.jwt_possession.specs.UriLaws.{NoDots, NormalExamples, NormalIsNormal, SameAsItsNormal, SameBothWays, SameByParts, SameThroughout};
 
+use jwt_policy::laws::claims_hold;
 use jwt_verify::laws::{accepts_exactly, refuses_exactly, tells_tokens};
 
 /// No octets are a proof and have a fault, want of memory aside. So what [`judge_proof`](crate::judge_proof) says of them is what there is to be said, and no
@@ -13,3 +15,30 @@ pub fn proofs_have_no_fault()
     accepts_exactly();
     refuses_exactly();
 }
+
+/// At a moment at which a policy for proofs accepts claims, their last moment hasn't passed.
+pub fn proofs_in_time()
+    ensures { ProofsInTime }
+{
+    claims_hold();
+}
+
+/// A normal form is its own normal form, and each URI is one with its own. No path has a dot segment there.
+pub fn normal_is_normal()
+    ensures normal { NormalIsNormal }
+    ensures same { SameAsItsNormal }
+    ensures dots { NoDots }
+{}
+
+/// Two URIs are one exactly where scheme, host, port and path have one form each. So it doesn't matter in which order they stand, nor to which one of several
+/// that are one another is compared.
+pub fn same_by_parts()
+    ensures parts { SameByParts }
+    ensures both_ways { SameBothWays }
+    ensures throughout { SameThroughout }
+{}
+
+/// The examples of RFC 3986 have the normal forms that it says.
+pub fn examples_of_normal_uris()
+    ensures { NormalExamples }
+{}

@@ -40,7 +40,7 @@ pub struct Request<'a> {
 pub enum RequestFault {
     /// `htm` is absent, no text, or another method.
     OtherMethod,
-    /// `htu` is absent, no text, no URI of HTTP, or another one; or the request's URI is none.
+    /// `htu` is absent, no text, has no normal form, or another than the request's URI; or that has none.
     OtherUri,
     /// A nonce was asked for, and `nonce` is absent, no text, or another.
     OtherNonce,

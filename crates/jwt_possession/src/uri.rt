@@ -1,4 +1,4 @@
-//! One form of each URI of HTTP (RFC 3986, sections 6.2.2 and 6.2.3).
+//! One form of each `http` or `https` URI that has a host, and no user's name (RFC 3986, sections 6.2.2 and 6.2.3).
 
 ghost use Rattle.std.specs.Prelude.{◌≡◌, ◌==◌, ◌+◌, ◌<◌, ◌≤◌, ◌++◌, [], option_map, IfOk, IfSome, OnOk, drop, length, map};
 ghost use Rattle.std.specs.List.{list_all, position, position_or_len, slice_split};
@@ -317,11 +317,13 @@ fn normal_behind(
     Ok(Some(text))
 }
 
-/// The normal form of a text that is a URI of HTTP, without query and fragment; `None` of any other.
+/// The normal form of a text that begins with `http://` or `https://` and has a host behind it. Query and fragment are dropped, whatever stands in them. `None` of any
+/// other text, of one with the name of a user (RFC 9110, section 4.2.4), of one whose port is no number, and of one in which a percent sign in host or path has no two
+/// digits behind it.
 ///
 /// Scheme and host are in small letters; an octet in percent-encoding that needs none is itself, and any other is written with
 /// capital digits in a path, and with small ones in a host; there are no dot segments; the scheme's own port isn't written; an
-/// empty path is `/` (RFC 3986, sections 6.2.2 and 6.2.3). A URI with the name of a user has none (RFC 9110, section 4.2.4).
+/// empty path is `/` (RFC 3986, sections 6.2.2 and 6.2.3).
 ///
 /// # Errors
 /// Where an allocation was refused.
@@ -339,7 +341,7 @@ pub fn normal_uri(alloc: Global, uri: &str) -> Result<Option<Vec<u8>>, AllocErro
     }
 }
 
-/// Whether both are URIs of HTTP with one normal form.
+/// Whether both have a normal form, and it is one.
 pub(crate) fn same_uri(alloc: Global, one: &str, two: &str) -> Result<bool, AllocError>
     ensures { IfOk result (λ same. same ≡ same_uri one.now two.now) }
 {
