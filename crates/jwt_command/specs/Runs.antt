@@ -1,6 +1,7 @@
 -- The end of a run of the command.
 use Rattle.std.specs.Prelude.{◌≡◌, ◌⊎◌, ℕ, Bool, ◌||◌, true, false, not, List, [], Option, Some, None, Result, Ok, Err, IfSome, is_some}
 use Rattle.std.specs.Option.{is_none}
+use Rattle.std.specs.String.{string_bytes}
 use Rattle.jwt_mac.specs.Verifying.{Meaning}
 use Rattle.jwt_text.specs.Intake.{TakesAtMost}
 use Rattle.jwt_words.specs.InHand.{Held}
@@ -45,6 +46,11 @@ abbrev pub IsReading : Result CodeCommand WordsFault → Option Command → Type
 IsReading (Ok command) asked = asked ≡ Some (command_view command)
 IsReading (Err (Wrong text)) asked = asked ≡ None
 IsReading (Err OutOfMemory) asked = Unit {0}
+
+-- of wrong words the very text goes out that reading them gave
+abbrev pub TellsWrong : Result CodeCommand WordsFault → Outcome → Type 0
+TellsWrong (Err (Wrong text)) o = Printed (record { text = string_bytes text; status = 2 }) o
+TellsWrong reading o = Unit {0}
 
 -- ---- whole runs
 

@@ -6,7 +6,7 @@ ghost use Rattle.jwt_words.specs.Seen.{command_view, held_view};
 ghost use Rattle.jwt_words.specs.Words.{Command as Wanted, HasRange, command_of};
 ghost use Rattle.jwt_printing.specs.Views.{reply_view};
 ghost use Rattle.jwt_command.specs.Answered.{IsAnswer, version_answer};
-ghost use Rattle.jwt_command.specs.Runs.{IsReading, IsRun, fails_otherwise, is_lines, reads_nothing};
+ghost use Rattle.jwt_command.specs.Runs.{IsReading, IsRun, TellsWrong, fails_otherwise, is_lines, reads_nothing};
 ghost use Rattle.jwt_command.specs.Stops.{most_in_hand};
 ghost use Rattle.jwt_command.specs.Subjects.{IsSubject, is_of_files, subject_in_hand, subject_view};
 ghost use Rattle.jwt_command.specs.Verify.{asked_for};
@@ -77,6 +77,8 @@ pub fn run<R: Source, W: Sink>(alloc: Global, words: &[&str], r: &mut R, w: &mut
 ///
 /// With `--lines` each line is answered before the next is waited for, and the status is 0 where each was answered.
 ///
+/// Of wrong words, the text that [`read_words`] gave is printed, and the status is 2.
+///
 /// Which document was refused, why, and what was read of it stands in the subject: of `verify`, with `--lines` and without, of `keys`,
 /// `issue`, `show` and `policy`. Where memory was refused it may be left out.
 pub fn run_read<'a, R: Source, W: Sink, C: Clock>(
@@ -96,6 +98,15 @@ pub fn run_read<'a, R: Source, W: Sink, C: Clock>(
           failed = R.failed r.new;
         })
         (r.new ≡ r.old)
+        (record {
+          before = W.contents w.old;
+          after = W.contents w.new;
+          failed = W.failed w.new;
+          status = result.status;
+        }) }
+
+    // Of wrong words, what reading them gave.
+    ensures wrong { TellsWrong words.entry
         (record {
           before = W.contents w.old;
           after = W.contents w.new;

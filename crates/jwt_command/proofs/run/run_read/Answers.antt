@@ -101,6 +101,7 @@ returns-in_default-command g c =
     let source : Drawn = record { before = g.R.Source.remaining c.args.r.now; after = g.R.Source.remaining c.reply_to.new.r; failed = g.R.Source.failed c.reply_to.new.r } in
     let outcome : Outcome = record { before = g.W.Sink.contents c.args.w.now; after = g.W.Sink.contents c.give_replied.new.w; failed = g.W.Sink.failed c.give_replied.new.w; status = c.give_replied.result.status } in
     record {
+      wrong = search rules;
       run = λ asked reading.
           let is : asked ≡ Some command = search rules in
           subst (λ (q : Option Command). IsRun vs g.C.Clock.says held q source (c.reply_to.new.r ≡ c.args.r.now) outcome) (sym is)
