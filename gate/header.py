@@ -48,7 +48,7 @@ SENTENCES = {
     "of 301, 302, 303, 307 and 308 five are followed": ["step"],
     "is asked for exactly where FOW_ASKED_OPENID is answered by 404": ["step"],
     "whoever keeps this time beside the keys asks": ["quiet"],
-    "between two that are new for one issuer and `jti`": ["taken"],
+    "of two that are new for one issuer and `jti` the second has the later `exp`": ["taken"],
     "what counts in the memory stays": ["taken"],
     "the policy for proofs stays": ["held"],
 }

@@ -511,8 +511,8 @@ uint32_t fow_expect_half_hash(fow_validator *validator, const uint8_t *token, si
  * that they share. Such a store has to do in one step what fow_once_take does: say of issuer and `jti` that they are new, and hold them for everybody from
  * then on until `exp` and the leeway have passed; drop none before; and where it can't be asked, or has no room, the token is refused.
  *
- * It may be asked about by as many validators as there are, whose policies have the same `leeway`. A fow_once is used by one call at a time: the lock that
- * threads need is the caller's. Take it for the call alone. */
+ * It may be asked about by as many validators as there are, whatever their policies: what it has let go of is FOW_TAKEN_LATE to all of them from then on, also to one
+ * with a longer `leeway`. A fow_once is used by one call at a time: the lock that threads need is the caller's. Take it for the call alone. */
 typedef struct fow_once {
     void *at;
     bool held;
@@ -525,10 +525,11 @@ enum fow_taken {
     FOW_TAKEN_NOTHING = 0, /* nothing was taken, for another reason than those below; the status says it */
     FOW_TAKEN_NEW = 1,     /* it wasn't taken before, and is held from now on */
     FOW_TAKEN_SEEN = 2,    /* it was taken before */
-    FOW_TAKEN_LATE = 3,    /* its `exp` and the leeway have passed by the greatest moment that the memory was told, so nobody can say */
+    FOW_TAKEN_LATE = 3,    /* its last moment has passed by the greatest moment that the memory was told, or the memory has let go of what has its `exp`: nobody can say */
     FOW_TAKEN_FULL = 4,    /* as many tokens as there is room for are held, and none of them has passed */
     FOW_TAKEN_NO_ID = 5,   /* it has no `jti` */
-    FOW_TAKEN_NO_END = 6   /* it has no `exp`, so it would have to be held for ever */
+    FOW_TAKEN_NO_END = 6,  /* it has no `exp`, so it would have to be held for ever */
+    FOW_TAKEN_AHEAD = 7    /* its `iat` is further ahead of now than the leeway, so nobody can say when it is accepted for the first time */
 };
 
 /* Makes an empty memory for at most so many tokens. Room is needed for as many as are accepted within the lifetime of one: where it is too small, tokens that
@@ -544,8 +545,8 @@ uint32_t fow_once_open(fow_once *once, size_t tokens);
  *
  * Proved: FOW_OK: it wasn't taken before, and is held from now on until `exp` and the policy's leeway; *taken is FOW_TAKEN_NEW. FOW_REFUSED: *taken says
  * why it isn't taken, and nothing new is held. FOW_ABSENT: the last verdict was no acceptance. FOW_NOT_OPEN: the validator or the memory holds nothing. No
- * token is taken twice: between two that are new for one issuer and `jti` the first one's `exp` and leeway have passed, and the same claims are never new
- * twice. What counts in the memory stays. The validator holds what it held. */
+ * token is taken twice: of two that are new for one issuer and `jti` the second has the later `exp`, and the same claims are never new twice, under whatever
+ * policies. What counts in the memory stays. The validator holds what it held. */
 uint32_t fow_once_take(fow_once *once, fow_validator *validator, int64_t now, uint32_t *taken);
 
 /* How many octets the mark has by which a token that counts once is held. */

@@ -23,7 +23,7 @@ import (
 var ErrOnce = errors.New("fowharimu: no memory of tokens that count once: it is for no tokens, or was never opened")
 
 // Once is a memory of tokens that count once, by their issuer and jti, each until its exp and the policy's leeway. A validator asks it behind its
-// verdict and the access rule (Taking). Validators may share it, whose policies have the same leeway, and goroutines, under a mutex. Close frees what it
+// verdict and the access rule (Taking). Validators may share it, whatever their policies, and goroutines, under a mutex. Close frees what it
 // holds, and so does the garbage collector.
 //
 // A token is let in once a memory: several processes or machines need one store that they share, which says in one step that issuer and jti are new,
@@ -35,7 +35,7 @@ type Once struct {
 
 // NotTakenError is the Refusal of a token that is accepted, counts once, and isn't taken. Fault says why: Seen, it was taken before; Late, its exp and
 // the leeway have passed by the greatest moment that was judged at; Full, as many tokens are held as there is room for; NoId or NoEnd, it has no
-// jti, or no exp.
+// jti, or no exp; Ahead, its iat is further ahead of now than the leeway.
 type NotTakenError struct {
 	Fault string
 	// Outcome is what a service answers a request with this token, or with this proof.
@@ -56,6 +56,7 @@ var whyNotTaken = map[C.uint32_t]string{
 	C.FOW_TAKEN_FULL:   "Full",
 	C.FOW_TAKEN_NO_ID:  "NoId",
 	C.FOW_TAKEN_NO_END: "NoEnd",
+	C.FOW_TAKEN_AHEAD:  "Ahead",
 }
 
 // OpenOnce makes an empty memory for so many tokens, each of which takes some 130 octets. Room is needed for as many as are accepted within the lifetime

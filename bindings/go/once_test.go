@@ -99,6 +99,7 @@ func TestWhyATokenIsNotTaken(t *testing.T) {
 	validator := taking(t, memoryFor(t, 1))
 	notTaken(t, validator, issuedBy(t, validator, claims{"iss": "i", "exp": 1000}), 900, "NoId")
 	notTaken(t, validator, issuedBy(t, validator, claims{"iss": "i", "jti": "a"}), 900, "NoEnd")
+	notTaken(t, validator, issuedBy(t, validator, claims{"jti": "a", "exp": 1000, "iat": 961}), 900, "Ahead")
 	letIn(t, validator, issuedBy(t, validator, claims{"jti": "a", "exp": 1000}), 900)
 	notTaken(t, validator, issuedBy(t, validator, claims{"jti": "b", "exp": 2000}), 900, "Full")
 	letIn(t, validator, issuedBy(t, validator, claims{"jti": "b", "exp": 2000}), 1061)

@@ -215,10 +215,10 @@ export class NotExpected extends TokenRefused {
 export class NotHeld extends TokenRefused {}
 /**
  * The token is accepted, and it, or its proof, counts once. `Seen`: it was taken before; `Late`: its `exp` and the leeway have passed by the greatest moment that was judged at;
- * `Full`: as many tokens are held as there is room for; `NoId`, `NoEnd`: it has no `jti`, or no `exp`.
+ * `Full`: as many tokens are held as there is room for; `NoId`, `NoEnd`: it has no `jti`, or no `exp`; `Ahead`: its `iat` is further ahead of now than the leeway.
  */
 export class NotTaken extends TokenRefused {
-  readonly fault: 'Seen' | 'Late' | 'Full' | 'NoId' | 'NoEnd';
+  readonly fault: 'Seen' | 'Late' | 'Full' | 'NoId' | 'NoEnd' | 'Ahead';
 }
 
 /**
@@ -238,7 +238,7 @@ export class Access {
 }
 
 /**
- * A memory of tokens that count once, by their issuer and `jti`. Validators of the same worker may share it, whose policies have the same leeway. A token is let
+ * A memory of tokens that count once, by their issuer and `jti`. Validators of the same worker may share it, whatever their policies. A token is let
  * in once a memory, so once a worker: several workers, processes or machines need one store that they share. What is never closed is freed with the object.
  */
 export class Once {

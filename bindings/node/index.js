@@ -9,7 +9,7 @@ const OK = 0, REFUSED = 1, OUT_OF_MEMORY = 3;
 /** FOW_NO_FAULT and FOW_DENIED_SCOPE_MISSING of fowharimu.h. */
 const NO_FAULT = 0, SCOPE_MISSING = 1001;
 /** FOW_NOT_EXPECTED, FOW_PROOF_OTHER_NONCE, FOW_TAKEN_NEW, and the names of the other answers of enum fow_taken. */
-const NOT_EXPECTED = 9, OTHER_NONCE = 1303, TAKEN_NEW = 1, NOT_TAKEN = { 2: 'Seen', 3: 'Late', 4: 'Full', 5: 'NoId', 6: 'NoEnd' };
+const NOT_EXPECTED = 9, OTHER_NONCE = 1303, TAKEN_NEW = 1, NOT_TAKEN = { 2: 'Seen', 3: 'Late', 4: 'Full', 5: 'NoId', 6: 'NoEnd', 7: 'Ahead' };
 /** The names of enum fow_unmet, from FOW_UNMET_ABSENT on. */
 const UNMET = { 1: 'Absent', 2: 'Other' };
 /** FOW_BOUND_NOT of fowharimu.h. */

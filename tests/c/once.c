@@ -54,7 +54,8 @@ static void check_entries(void)
     CHECK(fow_once_entry(&validator, other, sizeof other, &until, &lacks) == FOW_OK && until == 1001 + LEEWAY);
     CHECK(memcmp(mark, other, FOW_MARK_LEN) == 0);
     CHECK(judge(&validator, "{\"iss\":\"ia\",\"jti\":\"\",\"exp\":-100}", -200) == FOW_OK);
-    CHECK(fow_once_entry(&validator, other, sizeof other, &until, &lacks) == FOW_OK && until == 0);
+    /* (an `exp` before 1970 counts as 0) */
+    CHECK(fow_once_entry(&validator, other, sizeof other, &until, &lacks) == FOW_OK && until == LEEWAY);
     CHECK(memcmp(mark, other, FOW_MARK_LEN) != 0);
     /* (no issuer, and an empty one) */
     CHECK(judge(&validator, "{\"jti\":\"a\",\"exp\":1000}", 900) == FOW_OK);
@@ -82,6 +83,7 @@ static void check_none(fow_once *once)
     CHECK(fow_judge(&validator, token.at, token.len, NOW, &report) == FOW_OK);
     CHECK(fow_once_take(once, &validator, NOW, &taken) == FOW_REFUSED && taken == FOW_TAKEN_NO_ID);
     CHECK(take(once, "{\"jti\":\"a\"}", NOW) == FOW_TAKEN_NO_END);
+    CHECK(take(once, "{\"jti\":\"a\",\"exp\":1300819380,\"iat\":1300819440}", NOW) == FOW_TAKEN_AHEAD);
     /* (the refused token was not taken) */
     CHECK(take(once, "{\"jti\":\"a\",\"exp\":1300819380}", NOW) == FOW_TAKEN_NEW);
     fow_once_close(once);
@@ -130,6 +132,28 @@ static void check_beside(fow_once *once)
     fow_once_close(once);
 }
 
+/* Two policies over one memory, the second with a longer leeway: what the memory has let go of isn't new to it, and what it has asked about is held as long as it
+ * accepts it. */
+static void check_leeways(fow_once *once)
+{
+    static const char longer[] = "{\"algs\":[\"HS256\"],\"leeway\":600}", claims[] = "{\"iss\":\"i\",\"jti\":\"a\",\"exp\":1000}";
+    uint32_t fault, taken;
+    fow_validator second = FOW_VALIDATOR_INIT;
+    CHECK(fow_open(&second, (const uint8_t *)longer, sizeof longer - 1, keys.at, keys.len, &fault) == FOW_OK);
+    CHECK(fow_once_open(once, 9) == FOW_OK);
+    CHECK(take(once, claims, 900) == FOW_TAKEN_NEW);
+    CHECK(take(once, "{\"jti\":\"b\",\"exp\":5000}", 1000 + LEEWAY + 1) == FOW_TAKEN_NEW);
+    CHECK(judge(&second, claims, 1000 + LEEWAY + 1) == FOW_OK);
+    CHECK(fow_once_take(once, &second, 1000 + LEEWAY + 1, &taken) == FOW_REFUSED && taken == FOW_TAKEN_LATE);
+    CHECK(judge(&second, "{\"jti\":\"c\",\"exp\":1001}", 1000 + LEEWAY + 1) == FOW_OK);
+    CHECK(fow_once_take(once, &second, 1000 + LEEWAY + 1, &taken) == FOW_OK);
+    CHECK(take(once, "{\"jti\":\"d\",\"exp\":5000}", 1600) == FOW_TAKEN_NEW);
+    CHECK(judge(&second, "{\"jti\":\"c\",\"exp\":1001}", 1600) == FOW_OK);
+    CHECK(fow_once_take(once, &second, 1600, &taken) == FOW_REFUSED && taken == FOW_TAKEN_SEEN);
+    fow_close(&second);
+    fow_once_close(once);
+}
+
 /* Many tokens in a memory that is a tenth as large: each is let in once while it is held. */
 static void check_many(fow_once *once)
 {
@@ -156,6 +180,7 @@ int main(int argc, char **argv)
     check_entries();
     check_once(&once);
     check_beside(&once);
+    check_leeways(&once);
     check_many(&once);
     fow_close(&validator);
     return 0;

@@ -283,8 +283,8 @@ static void check_algs(void)
 static void check_entry(const row *good)
 {
     static const uint8_t wanted[FOW_MARK_LEN] = {
-        0xa2, 0x18, 0x10, 0x58, 0x75, 0xb2, 0x3a, 0xc8, 0xcf, 0x98, 0x48, 0x02, 0x4c, 0xa3, 0xdf, 0x4e,
-        0xbe, 0x8d, 0x67, 0x04, 0xd1, 0x7c, 0xd7, 0x3e, 0x69, 0x52, 0xf9, 0x4f, 0x41, 0xee, 0x28, 0x5a,
+        0xb1, 0xa5, 0xba, 0x46, 0xcb, 0x14, 0x6f, 0x0b, 0x4e, 0x4a, 0xc1, 0x5d, 0x59, 0x68, 0xb2, 0x03,
+        0xbc, 0xaa, 0xe1, 0x63, 0x75, 0xcf, 0x7c, 0x1e, 0x55, 0x7e, 0xe8, 0x16, 0xc5, 0xd2, 0x9d, 0x41,
     };
     uint8_t mark[FOW_MARK_LEN + 1];
     uint64_t until = 7;
@@ -391,6 +391,25 @@ static void check_once(const row *good)
     CHECK(fow_possession_take(&possession, &once, MOMENT + LIFE + 1, &taken) == FOW_ABSENT);
     CHECK(judge(good, &validator, MOMENT, &fault) == FOW_OK);
     CHECK(fow_possession_take(&possession, &once, MOMENT + LIFE + 1, &taken) == FOW_REFUSED && taken == FOW_TAKEN_LATE);
+}
+
+/* Two policies over one memory, the second with a greater age: a proof that the first one took isn't new to it. */
+static void check_ages(const row *good)
+{
+    static const char older[] = "{\"algs\":[\"ES256\"],\"typ\":\"dpop+jwt\",\"required\":[\"jti\",\"htm\",\"htu\",\"iat\"],\"max_age\":300,\"leeway\":5}";
+    uint32_t fault, taken = 77;
+    fow_validator none = FOW_VALIDATOR_INIT;
+    fow_possession second = FOW_POSSESSION_INIT;
+    fow_once both = FOW_ONCE_INIT;
+    CHECK(fow_possession_open(&second, at(older), sizeof older - 1, &fault) == FOW_OK && fow_once_open(&both, 9) == FOW_OK);
+    CHECK(judge_access(good->token, MOMENT) == FOW_OK);
+    CHECK(judge(good, &validator, MOMENT, &fault) == FOW_OK);
+    CHECK(fow_possession_take(&possession, &both, MOMENT, &taken) == FOW_OK && taken == FOW_TAKEN_NEW);
+    CHECK(fow_possession_judge(&second, &none, at(good->proof), strlen(good->proof), at(good->method), strlen(good->method), at(good->uri), strlen(good->uri),
+              at(""), 0, at(""), 0, MOMENT + LIFE + 1, &fault) == FOW_OK);
+    CHECK(fow_possession_take(&second, &both, MOMENT + LIFE + 1, &taken) == FOW_REFUSED && taken == FOW_TAKEN_SEEN);
+    fow_possession_close(&second);
+    fow_once_close(&both);
 }
 
 /* How tokens of these claims are bound. The certificate is the DER `0\x03\x02\x01\x00`, whose digest OpenSSL gives. */
@@ -508,6 +527,7 @@ int main(int argc, char **argv)
     check_tokens(&first);
     check_octets(&first);
     check_once(&first);
+    check_ages(&first);
     check_fresh(&timely);
     check_entry(&first);
     check_bound();

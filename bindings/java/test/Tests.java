@@ -200,6 +200,7 @@ final class Tests {
         try (Once once = new Once(1); Validator it = taking(once)) {
             notTaken(it, issued(it, "{\"iss\":\"i\",\"exp\":1000}"), 900, "NoId");
             notTaken(it, issued(it, "{\"iss\":\"i\",\"jti\":\"a\"}"), 900, "NoEnd");
+            notTaken(it, issued(it, "{\"jti\":\"a\",\"exp\":1000,\"iat\":961}"), 900, "Ahead");
             it.validate(issued(it, "{\"jti\":\"a\",\"exp\":1000}"), 900);
             notTaken(it, issued(it, "{\"jti\":\"b\",\"exp\":2000}"), 900, "Full");
             it.validate(issued(it, "{\"jti\":\"b\",\"exp\":2000}"), 1061);

@@ -628,6 +628,7 @@ function testWhyNotTaken() {
   const validator = takingIn(new fow.Once(1)), issue = (claims) => validator.issue(claims);
   notTaken(validator, issue({ iss: 'i', exp: 1000 }), 900, 'NoId');
   notTaken(validator, issue({ iss: 'i', jti: 'a' }), 900, 'NoEnd');
+  notTaken(validator, issue({ jti: 'a', exp: 1000, iat: 961 }), 900, 'Ahead');
   validator.validate(issue({ jti: 'a', exp: 1000 }), 900);
   notTaken(validator, issue({ jti: 'b', exp: 2000 }), 900, 'Full');
   validator.validate(issue({ jti: 'b', exp: 2000 }), 1061);

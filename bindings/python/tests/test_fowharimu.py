@@ -263,6 +263,7 @@ class Taking(unittest.TestCase):
         with self.taking(1) as validator:
             self.refused(validator, validator.issue({"iss": "i", "exp": 1000}), 900, "NoId")
             self.refused(validator, validator.issue({"iss": "i", "jti": "a"}), 900, "NoEnd")
+            self.refused(validator, validator.issue({"jti": "a", "exp": 1000, "iat": 961}), 900, "Ahead")
             validator.validate(validator.issue({"jti": "a", "exp": 1000}), 900)
             self.refused(validator, validator.issue({"jti": "b", "exp": 2000}), 900, "Full")
             validator.validate(validator.issue({"jti": "b", "exp": 2000}), 1061)

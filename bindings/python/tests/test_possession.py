@@ -177,7 +177,7 @@ class Possession(unittest.TestCase):
             proofs = Proofs(FIRST["policy"], Store())
             by.validate(GOOD["token"], GOOD["now"], holder=proof_of(GOOD, proofs))
             thumbprint, jti = json.loads(GOOD["claims"])["cnf"]["jkt"], "e1j3V_bKic8-LAEB"
-            digest = hashlib.sha256(b"".join(hashlib.sha256(it.encode()).digest() for it in (thumbprint, jti))).digest()
+            digest = hashlib.sha256(len(thumbprint).to_bytes(8, "big") + (thumbprint + jti).encode()).digest()
             self.assertEqual(taken, {digest: GOOD["now"] + 65})
             seen.append(1)
             with self.assertRaises(NotTaken) as caught:

@@ -46,7 +46,7 @@ pub use jwt_access::{AccessFault, AccessRule, Denial, DeniedName, Moment, RuleMe
 pub use jwt_expected::{Expected, Unmet, Wanted, first_unmet};
 
 // Taking a token once.
-pub use jwt_once::{Entry, Lack, Once, Taken, entry_of};
+pub use jwt_once::{Entry, Lack, Once, Taken, Times, entry_of, owner_in};
 
 // Who sends a token holds the key that it is bound to.
 pub use jwt_possession::{

@@ -15,7 +15,7 @@ use Rattle.jwt_once.specs.declared.once.Once.{Once}
 use Rattle.jwt_once.specs.declared.once.Taken.{Taken}
 use Rattle.jwt_possession.specs.ProofPolicies.{policy_rows}
 use Rattle.jwt_possession.specs.Proofs.{IsProof, IsProofFault}
-use Rattle.jwt_possession.specs.Possessions.{proved, proof_mark, last_moment}
+use Rattle.jwt_possession.specs.Possessions.{proved, proof_mark, proof_owner, proof_times}
 use Rattle.jwt_possession.specs.declared.own_key.KeyFault.{KeyFault}
 use Rattle.jwt_possession.specs.declared.own_key.KeyFault.TheVariants as key
 use Rattle.jwt_possession.specs.declared.policy.PolicyLack.{PolicyLack}
@@ -123,7 +123,7 @@ pub record IsRequest (parts : RequestParts) (accepted : Option Members) (request
 abbrev pub IsKept : Settings → ℤ → Request → List ℕ → Option Possession → Type 0
 IsKept policy now request octets None = ⊥
 IsKept policy now request octets (Some it) = (key : KeyParts) × ((proved it).thumbprint ≡ key.thumbprint)
-    × IsProof policy proved_meanings now request octets key (proved it).claims × ((proved it).until ≡ last_moment policy (proved it).claims)
+    × IsProof policy proved_meanings now request octets key (proved it).claims × ((proved it).times ≡ proof_times policy (proved it).claims)
 
 -- nothing is kept, and the numbers are those of the first cause why it is none
 abbrev pub IsNone : Settings → ℤ → Request → List ℕ → ℕ → ℕ → Option Possession → Type 0
@@ -165,7 +165,7 @@ SaysBeside (Some claims) policy now parts octets status number kept = SaysFor po
 abbrev pub TakesProof : Option Possession → ℤ → Once → ℕ → ℕ → Once → Type 0
 TakesProof None now old status taken new = (status ≡ FOW_ABSENT) × (taken ≡ 0) × (new ≡ old)
 TakesProof (Some it) now old status taken new =
-    (answer : Taken) × IsTaken old (proof_mark (proved it)) (proved it).until (seconds now) answer new × SaysTaken (Ok answer) status taken
+    (answer : Taken) × IsTaken old (proof_mark (proved it)) (Some (proof_owner (proved it))) (proved it).times (seconds now) answer new × SaysTaken (Ok answer) status taken
 
 -- the same of a memory that is held on
 abbrev pub TakesKept : Option Possession → ℤ → OnceState → ℕ → ℕ → Option OnceState → Type 0

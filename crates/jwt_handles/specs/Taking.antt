@@ -3,11 +3,11 @@ use Rattle.std.specs.Prelude.{ℕ, ℤ, ◌≡◌, List, Option, Some, None, Res
 use Rattle.serde_json.specs.Data.{Members}
 use Rattle.jwt_policy.specs.Settings.{Settings}
 use Rattle.jwt_once.specs.declared.accepted.Lack.{Lack}
-use Rattle.jwt_once.specs.declared.accepted.Lack.TheVariants.{NoId, NoEnd}
+use Rattle.jwt_once.specs.declared.accepted.Lack.TheVariants.{NoId, NoEnd, Ahead}
 use Rattle.jwt_once.specs.declared.once.Once.{Once}
 use Rattle.jwt_once.specs.declared.once.Taken.{Taken}
-use Rattle.jwt_once.specs.declared.once.Taken.TheVariants.{New, Seen, Late, Full, OutOfMemory}
-use Rattle.jwt_once.specs.Steps.{until_of}
+use Rattle.jwt_once.specs.declared.once.Taken.TheVariants.{New, Seen, Late, OwnFull, Full, OutOfMemory}
+use Rattle.jwt_once.specs.Steps.{held_of}
 use Rattle.jwt_once.specs.Accepted.{IsTakenFor}
 use Rattle.jwt_handles.specs.declared.once_state.OnceState.{OnceState}
 use Rattle.jwt_handles.specs.declared.state.State.{State}
@@ -15,19 +15,22 @@ use Rattle.jwt_handles.specs.declared.status.TheConstants.{FOW_OK, FOW_REFUSED, 
 use Rattle.jwt_handles.specs.Documents.{documents}
 use Rattle.jwt_handles.specs.Evidence.{claims_kept}
 
--- an empty memory for so many tokens
+-- an empty memory for so many tokens, all of which may be one owner's, that is opened at no moment: no token may have been accepted before
 abbrev pub HoldsNone : ℕ → Option OnceState → Type 0
 HoldsNone tokens None = ⊥
-HoldsNone tokens (Some state) = (state.once.most ≡ tokens) × (state.once.latest ≡ 0) × ((mark : List ℕ) → until_of state.once mark ≡ None)
+HoldsNone tokens (Some state) = (state.once.most ≡ tokens) × (state.once.share ≡ tokens) × (state.once.opened ≡ 0) × (state.once.latest ≡ 0) × (state.once.span ≡ 0)
+    × (state.once.horizon ≡ 0) × ((mark : List ℕ) → held_of state.once mark ≡ None)
 
--- the numbers of an answer: FOW_OK of a token that is new alone, and 0 where memory was refused
+-- the numbers of an answer: FOW_OK of a token that is new alone, and 0 where memory was refused; where one owner has all the room, it is full
 abbrev pub SaysTaken : Result Taken Lack → ℕ → ℕ → Type 0
 SaysTaken (Ok New) status taken = (status ≡ FOW_OK) × (taken ≡ 1)
 SaysTaken (Ok Seen) status taken = (status ≡ FOW_REFUSED) × (taken ≡ 2)
 SaysTaken (Ok Late) status taken = (status ≡ FOW_REFUSED) × (taken ≡ 3)
+SaysTaken (Ok OwnFull) status taken = (status ≡ FOW_REFUSED) × (taken ≡ 4)
 SaysTaken (Ok Full) status taken = (status ≡ FOW_REFUSED) × (taken ≡ 4)
 SaysTaken (Err NoId) status taken = (status ≡ FOW_REFUSED) × (taken ≡ 5)
 SaysTaken (Err NoEnd) status taken = (status ≡ FOW_REFUSED) × (taken ≡ 6)
+SaysTaken (Err Ahead) status taken = (status ≡ FOW_REFUSED) × (taken ≡ 7)
 SaysTaken (Ok OutOfMemory) status taken = (status ≡ FOW_OUT_OF_MEMORY) × (taken ≡ 0)
 
 -- the call for these claims, if there are any, takes the one memory to the other, and its answer has these numbers

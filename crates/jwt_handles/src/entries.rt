@@ -2,18 +2,25 @@
 
 ghost use Rattle.jwt_handles.specs.declared.status.TheConstants.{FOW_NOT_OPEN, FOW_OK};
 ghost use Rattle.std.specs.Prelude.{◌≡◌, ◌≢◌, IfSome, None, option_map};
-ghost use Rattle.jwt_handles.specs.Entries.{SaysEntry, TellsClaims, TellsLast, TellsProof, WritesEntry};
+ghost use Rattle.jwt_handles.specs.Entries.{SaysEntry, TellsClaims, TellsLast, TellsProof, WritesEntry, last_of};
 
 use crate::handle::{Handle, take};
 use crate::possession_handle::{PossessionHandle, take_possession};
 use crate::status::{FOW_ABSENT, FOW_NOT_OPEN, FOW_OK, FOW_REFUSED};
 use crate::writing::put;
-use jwt_once::{Entry, Lack, entry_of};
+use jwt_once::{Entry, Lack, Times, entry_of};
 use jwt_policy::{Claims, Policy};
 use jwt_possession::Possession;
 use std::alloc::Global;
 
-/// Puts an entry's mark at the front of `mark`, and its moment into `until`. `FOW_OK`; `FOW_TOO_SHORT`: there is too little room.
+/// The last moment of these times.
+fn last_of(times: Times) -> u64
+    ensures { result ≡ last_of times }
+{
+    times.moment.saturating_add(times.grace)
+}
+
+/// Puts an entry's mark at the front of `mark`, and its last moment into `until`. `FOW_OK`; `FOW_TOO_SHORT`: there is too little room.
 fn put_entry(entry: &Entry, mark: &mut [u8], until: &mut u64) -> u32
     ensures said { WritesEntry entry.now result mark.old mark.new until.new }
     ensures unwritten { result ≢ FOW_OK → (mark.new ≡ mark.old) × (until.new ≡ until.old) }
@@ -21,7 +28,7 @@ fn put_entry(entry: &Entry, mark: &mut [u8], until: &mut u64) -> u32
     let mut written = 0;
     let status = put(&entry.mark, mark, &mut written);
     if status == FOW_OK {
-        *until = entry.until;
+        *until = last_of(entry.times);
     }
     status
 }
@@ -42,6 +49,10 @@ fn put_or_lack(entry: Result<Entry, Lack>, mark: &mut [u8], until: &mut u64, lac
         }
         Err(Lack::NoEnd) => {
             *lacks = 6;
+            FOW_REFUSED
+        }
+        Err(Lack::Ahead) => {
+            *lacks = 7;
             FOW_REFUSED
         }
     }

@@ -21,9 +21,11 @@ pub(crate) fn numbers_of(answer: Result<Taken, Lack>) -> (u32, u32)
         Ok(Taken::New) => (FOW_OK, 1),
         Ok(Taken::Seen) => (FOW_REFUSED, 2),
         Ok(Taken::Late) => (FOW_REFUSED, 3),
+        Ok(Taken::OwnFull) => (FOW_REFUSED, 4),
         Ok(Taken::Full) => (FOW_REFUSED, 4),
         Err(Lack::NoId) => (FOW_REFUSED, 5),
         Err(Lack::NoEnd) => (FOW_REFUSED, 6),
+        Err(Lack::Ahead) => (FOW_REFUSED, 7),
         Ok(Taken::OutOfMemory) => (FOW_OUT_OF_MEMORY, 0),
     }
 }
@@ -38,7 +40,7 @@ fn take_claims(once: &mut Once, policy: &Policy, claims: Option<&Claims>, now: i
     }
 }
 
-/// Makes an empty memory for at most so many tokens. `FOW_OK`: it is held from now on; `FOW_REFUSED`: it would be for none;
+/// Makes an empty memory for at most so many tokens, all of which may be one owner's, to which no token may have been accepted before. `FOW_OK`: it is held from now on; `FOW_REFUSED`: it would be for none;
 /// `FOW_OUT_OF_MEMORY`: memory was refused. On any other status the handle holds what it held.
 pub fn once_open(once: &mut OnceHandle, alloc: Global, tokens: usize) -> u32
     ensures opened { result ≡ FOW_OK → HoldsNone tokens once.new.state }
@@ -50,7 +52,7 @@ pub fn once_open(once: &mut OnceHandle, alloc: Global, tokens: usize) -> u32
         return FOW_REFUSED;
     };
     let state = OnceState {
-        once: Once::new(alloc, tokens),
+        once: Once::new(alloc, tokens, 0, tokens),
     };
     match Box::new(alloc, state) {
         Ok(state) => {

@@ -2,7 +2,7 @@
 
 -- the digest that a pair of issuer and `jti` is held by
 pub mod Marks
--- the two tables of a memory
+-- the tables of a memory
 pub mod Tables
 -- what one call does
 pub mod Steps

@@ -2,10 +2,10 @@
 
 ghost use Rattle.std.specs.Prelude.{◌≡◌, ◌<◌};
 ghost use Rattle.jwt_once.specs.Marks.{mark_of};
-ghost use Rattle.jwt_once.specs.Accepted.{seconds, end_of, IsEntryOf, IsTakenFor};
+ghost use Rattle.jwt_once.specs.Accepted.{seconds, issued_of, times_of, issuer_in, owner_in, is_ahead, IsEntryOf, IsTakenFor};
 
-use crate::mark::mark;
-use crate::once::{Once, Taken};
+use crate::mark::{mark, owner_of};
+use crate::once::{Once, Taken, Times};
 use jwt_policy::{Claims, Policy};
 
 /// What the claims of a token lack, so that it can't be held.
@@ -15,6 +15,8 @@ pub enum Lack {
     NoId,
     /// There is no `exp`: such a token would have to be held for ever.
     NoEnd,
+    /// Its `iat` is later than now by more than the leeway: so nobody could say whether it was accepted before a memory was opened.
+    Ahead,
 }
 
 /// How a token that counts once is held: a store that several processes share is asked with it.
@@ -22,19 +24,23 @@ pub enum Lack {
 pub struct Entry {
     /// The digest of issuer and `jti`: one store has one entry of each.
     pub mark: [u8; 32],
-    /// The last moment at which it counts, in seconds since 1970-01-01T00:00:00Z.
-    pub until: u64,
+    /// The digest of issuer and subject, by which its owner's share is counted; none where it names no subject.
+    pub owner: Option<[u8; 32]>,
+    /// Its moments.
+    pub times: Times,
 }
 
 impl Entry {
-    /// How what has this issuer and this `jti` is held, until this moment: by the mark by which [`Once::take`] holds it.
-    pub fn of(issuer: &[u8], jti: &[u8], until: u64) -> Entry
+    /// How what has this issuer, this `jti` and these times is held: by the mark by which [`Once::take`] holds it.
+    pub fn of(issuer: &[u8], jti: &[u8], owner: Option<[u8; 32]>, times: Times) -> Entry
         ensures mark { result.mark ≡ mark_of issuer.now jti.now }
-        ensures until { result.until ≡ until }
+        ensures owner { result.owner ≡ owner }
+        ensures times { result.times ≡ times }
     {
         Entry {
             mark: mark(issuer, jti),
-            until,
+            owner,
+            times,
         }
     }
 }
@@ -46,15 +52,45 @@ fn seconds(moment: i64) -> u64
     u64::try_from(moment).unwrap_or(0)
 }
 
-/// Until when a token with this `exp` counts.
-fn end_of(policy: &Policy, exp: i64) -> u64
-    ensures { result ≡ end_of policy.now exp }
+/// The earliest moment at which these claims may have been accepted under this policy: `iat` and its leeway before; 0 where there is no `iat`.
+pub fn issued_of(policy: &Policy, claims: &Claims) -> u64
+    ensures { result ≡ issued_of policy.now claims.now }
 {
-    u64::try_from(i128::from(exp) + i128::from(policy.leeway())).unwrap_or(0)
+    match claims.iat() {
+        Some(iat) => u64::try_from(i128::from(iat) - i128::from(policy.leeway())).unwrap_or(0),
+        None => 0,
+    }
 }
 
-/// How the token of these claims is held, which were accepted under this policy: by `iss`, the empty text where there is none, and `jti`, until `exp` and the
-/// policy's leeway.
+/// The times of the token of these claims, with this `exp`.
+fn times_of(policy: &Policy, claims: &Claims, exp: i64) -> Times
+    ensures { result ≡ times_of policy.now claims.now exp }
+{
+    Times {
+        moment: seconds(exp),
+        grace: u64::from(policy.leeway()),
+        issued: issued_of(policy, claims),
+    }
+}
+
+/// The issuer of these claims, the empty text where they name none.
+fn issuer_in(claims: &Claims) -> &str
+    ensures { result.now ≡ issuer_in claims.now }
+{
+    claims.iss().unwrap_or("")
+}
+
+/// The owner of the token of these claims: by the digest of issuer and subject. Nobody where they name no subject: such a token is its issuer's, whose
+/// share would be all there is.
+pub fn owner_in(claims: &Claims) -> Option<[u8; 32]>
+    ensures { result ≡ owner_in claims.now }
+{
+    let subject = claims.sub()?;
+    Some(owner_of(issuer_in(claims).as_bytes(), subject.as_bytes()))
+}
+
+/// How the token of these claims is held, which were accepted under this policy: by `iss`, the empty text where there is none, and `jti`, by its moment
+/// `exp` and the policy's leeway behind it.
 ///
 /// # Errors
 /// What the claims lack.
@@ -67,13 +103,27 @@ pub fn entry_of(policy: &Policy, claims: &Claims) -> Result<Entry, Lack>
     let Some(exp) = claims.exp() else {
         return Err(Lack::NoEnd);
     };
-    let issuer = claims.iss().unwrap_or("");
-    Ok(Entry::of(issuer.as_bytes(), jti.as_bytes(), end_of(policy, exp)))
+    Ok(Entry::of(
+        issuer_in(claims).as_bytes(),
+        jti.as_bytes(),
+        owner_in(claims),
+        times_of(policy, claims, exp),
+    ))
+}
+
+/// Whether the claims were issued later than now, the leeway added.
+fn is_ahead(policy: &Policy, claims: &Claims, now: i64) -> bool
+    ensures { result ≡ is_ahead policy.now claims.now now }
+{
+    match claims.iat() {
+        Some(iat) => i128::from(now) + i128::from(policy.leeway()) < i128::from(iat),
+        None => false,
+    }
 }
 
 impl Once {
     /// Takes the token of these claims, which were accepted under this policy at this moment, unless it was taken before. It is held by
-    /// `iss`, the empty text where there is none, and `jti`, until `exp` and the policy's leeway. `now` is the verdict's moment, in seconds
+    /// `iss`, the empty text where there is none, and `jti`, until `exp` and the longest leeway that was told. `now` is the verdict's moment, in seconds
     /// since 1970-01-01T00:00:00Z; one before that counts as 0.
     ///
     /// # Errors
@@ -87,6 +137,9 @@ impl Once {
         ensures { IsTakenFor policy.now claims.now now self.old result self.new }
     {
         let entry = entry_of(policy, claims)?;
-        Ok(self.take_mark(entry.mark, entry.until, seconds(now)))
+        if is_ahead(policy, claims, now) {
+            return Err(Lack::Ahead);
+        }
+        Ok(self.take_mark(entry.mark, entry.owner, entry.times, seconds(now)))
     }
 }

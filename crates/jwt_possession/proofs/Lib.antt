@@ -2,6 +2,7 @@
 pub mod Names
 -- ---- For laws.rt
 pub mod NoFault
+pub mod InTime
 pub mod NormalForms
 -- ---- For nonces.rt
 pub mod Encoded

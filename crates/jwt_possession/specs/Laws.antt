@@ -1,14 +1,16 @@
--- That no octets are a proof and have a fault, and that a policy for proofs accepts none past its last moment.
-use Rattle.std.specs.Prelude.{◌≡◌, ◌≢◌, ◌≤◌, ℕ, ℤ, List, codes, None, Some}
+-- That no octets are a proof and have a fault, and that a proof is new once.
+use Rattle.std.specs.Prelude.{◌≡◌, ◌≢◌, ◌≤◌, ◌+◌, ℕ, ℤ, List, Some, None, codes}
 use Rattle.serde_json.specs.Data.{Members}
 use Rattle.jwt_mac.specs.Verifying.{Meaning}
 use Rattle.jwt_keys.specs.Keys.{KeyParts}
 use Rattle.jwt_policy.specs.Settings.{Settings}
 use Rattle.jwt_policy.specs.Checks.{check_of}
 use Rattle.jwt_text.specs.Members.{whole_at}
+use Rattle.jwt_once.specs.declared.once.Once.{Once}
 use Rattle.jwt_once.specs.Accepted.{seconds}
-use Rattle.jwt_possession.specs.ProofPolicies.{IsProofPolicy}
-use Rattle.jwt_possession.specs.Possessions.{last_moment}
+use Rattle.jwt_once.specs.Marks.{mark_of}
+use Rattle.jwt_once.specs.Laws.{Call, IsTakenTwice}
+use Rattle.jwt_possession.specs.Possessions.{id_of, proof_times}
 use Rattle.jwt_verify.specs.Reports.{FoundMemory}
 use Rattle.jwt_verify.specs.declared.report.Fault.TheVariants as token_fault
 use Rattle.jwt_verify.specs.declared.report.Verdict.TheVariants.{Refused}
@@ -31,7 +33,17 @@ abbrev pub ProofsHaveNoFault : Type 0
 ProofsHaveNoFault = (policy : Settings) (verifiers : List Meaning) (now : ℤ) (request : Request) (octets : List ℕ) (key : KeyParts) (claims : Members) (fault : ProofFault)
     → IsProof policy verifiers now request octets key claims → IsOfOctets fault → ¬ IsProofFault policy verifiers now request octets fault
 
--- at a moment at which a policy for proofs accepts claims, their last moment hasn't passed: what a memory lets go is too old for that policy
+-- the call is what one for a proof with these claims by the key of this thumbprint, accepted under this policy, comes to
+abbrev pub IsCallForProof : Settings → (thumbprint : List ℕ) → Members → Call → Type 0
+IsCallForProof policy thumbprint claims call = (call.mark ≡ mark_of thumbprint (id_of claims)) × (call.times ≡ proof_times policy claims)
+
+-- a proof is never New twice, under whatever policies it and whatever else that is taken between come
+abbrev pub NoProofTwice : Type 0
+NoProofTwice = (policy other : Settings) (thumbprint : List ℕ) (claims : Members) (one two : Call) (last : Once) → IsCallForProof policy thumbprint claims one
+    → IsCallForProof other thumbprint claims two → IsTakenTwice one two last → ⊥
+
+-- at a moment at which a policy with a greatest age accepts claims, they aren't late by their own times, and may have been accepted from their moment of issue on
 abbrev pub ProofsInTime : Type 0
-ProofsInTime = (policy : Settings) (claims : Members) (now iat : ℤ) → IsProofPolicy policy → check_of policy claims now ≡ None → whole_at (codes "iat") claims ≡ Some iat
-    → seconds now ≤ last_moment policy claims
+ProofsInTime = (policy : Settings) (claims : Members) (now iat : ℤ) (age : ℕ) → check_of policy claims now ≡ None → policy.claims.max_age ≡ Some age
+    → whole_at (codes "iat") claims ≡ Some iat
+    → (seconds now ≤ (proof_times policy claims).moment + (proof_times policy claims).grace) × ((proof_times policy claims).issued ≤ seconds now)

@@ -12,7 +12,7 @@ pub mod Uris
 pub mod Requests
 -- a proof of possession, and why a token is none
 pub mod Proofs
--- what a proof that was accepted says, and until when it counts
+-- what a proof that was accepted says, and its times
 pub mod Possessions
 -- the names of algorithms as one text, and how it is written
 pub mod AlgNames
@@ -22,7 +22,7 @@ pub mod Nonces
 pub mod FaultNames
 -- ---- What laws alone cite
 
--- that no octets are a proof and have a fault, and that a policy for proofs accepts none past its last moment
+-- that no octets are a proof and have a fault, and that a proof is new once
 pub mod Laws
 -- laws of normal forms, and the examples of RFC 3986
 pub mod UriLaws

@@ -1,22 +1,23 @@
--- What a proof that was accepted says, and until when it counts.
-use Rattle.std.specs.Prelude.{ℕ, pos, ◌+◌, ◌+ℤ◌, List, [], codes, unwrap_or, string_bytes}
+-- What a proof that was accepted says, and its times.
+use Rattle.std.specs.Prelude.{ℕ, ◌+◌, List, [], codes, unwrap_or, string_bytes}
 use Rattle.std.specs.Option.{option_map_or}
 use Rattle.serde_json.specs.Data.{Members}
 use Rattle.jwt_text.specs.Members.{text_at, whole_at}
 use Rattle.jwt_policy.specs.Settings.{Settings}
-use Rattle.jwt_once.specs.Accepted.{seconds}
+use Rattle.jwt_once.specs.declared.once.Times.{Times}
+use Rattle.jwt_once.specs.Accepted.{seconds, issued_of}
 use Rattle.jwt_once.specs.Marks.{mark_of}
 use Rattle.jwt_possession.specs.declared.possession.Possession.{Possession}
 
--- the thumbprint of the key that was proved to be held (RFC 7638), the claims of the proof, and the last moment at which it counts
+-- the thumbprint of the key that was proved to be held (RFC 7638), the claims of the proof, and its times
 pub record Proved : Type 0 where
   pub thumbprint : List ℕ
   pub claims : Members
-  pub until : ℕ
+  pub times : Times
 
 -- what contracts see of a possession
 abbrev pub proved : Possession → Proved
-proved possession = record { thumbprint = string_bytes possession.thumbprint; claims = possession.claims; until = possession.until }
+proved possession = record { thumbprint = string_bytes possession.thumbprint; claims = possession.claims; times = possession.times }
 
 -- `jti` of the proof, by which it is told from others of its key (RFC 9449, section 11.1)
 abbrev pub id_of : Members → List ℕ
@@ -26,6 +27,14 @@ id_of claims = unwrap_or (text_at (codes "jti") claims) []
 abbrev pub proof_mark : Proved → List ℕ
 proof_mark it = mark_of it.thumbprint (id_of it.claims)
 
--- the last moment at which a policy accepts claims by their `iat`, the greatest age and the leeway added; one before 1970 is 0
-abbrev pub last_moment : Settings → Members → ℕ
-last_moment policy claims = option_map_or (λ iat. seconds (iat +ℤ pos (unwrap_or policy.claims.max_age 0 + policy.claims.leeway))) (whole_at (codes "iat") claims) 0
+-- whose a proof is: its key's, by the digest of its thumbprint
+abbrev pub proof_owner : Proved → List ℕ
+proof_owner it = mark_of it.thumbprint []
+
+-- The times of a proof with these claims: its own moment is `iat`, whatever the policy; its grace is the policy's greatest age and leeway.
+abbrev pub proof_times : Settings → Members → Times
+proof_times policy claims = record {
+  moment = option_map_or seconds (whole_at (codes "iat") claims) 0;
+  grace = unwrap_or policy.claims.max_age 0 + policy.claims.leeway;
+  issued = issued_of policy claims;
+}

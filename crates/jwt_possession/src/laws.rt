@@ -1,8 +1,9 @@
 //! Laws of the definitions: each function does nothing, and its contract holds of all octets.
 
-ghost use Rattle.jwt_possession.specs.Laws.{ProofsHaveNoFault, ProofsInTime};
+ghost use Rattle.jwt_possession.specs.Laws.{NoProofTwice, ProofsHaveNoFault, ProofsInTime};
 ghost use Rattle.jwt_possession.specs.UriLaws.{NoDots, NormalExamples, NormalIsNormal, SameAsItsNormal, SameBothWays, SameByParts, SameThroughout};
 
+use jwt_once::laws::{issued_before, never_twice};
 use jwt_policy::laws::claims_hold;
 use jwt_verify::laws::{accepts_exactly, refuses_exactly, tells_tokens};
 
@@ -16,11 +17,19 @@ pub fn proofs_have_no_fault()
     refuses_exactly();
 }
 
-/// At a moment at which a policy for proofs accepts claims, their last moment hasn't passed.
+/// A proof is never New twice, under whatever policies for proofs, and whatever else is taken.
+pub fn no_proof_twice()
+    ensures { NoProofTwice }
+{
+    never_twice();
+}
+
+/// At a moment at which a policy accepts a proof's claims they aren't late by their own times, and were issued no later.
 pub fn proofs_in_time()
     ensures { ProofsInTime }
 {
     claims_hold();
+    issued_before();
 }
 
 /// A normal form is its own normal form, and each URI is one with its own. No path has a dot segment there.

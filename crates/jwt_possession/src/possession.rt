@@ -3,10 +3,10 @@
 ghost use Rattle.std.specs.Prelude.{◌≡◌, IfOk};
 ghost use Rattle.jwt_once.specs.Accepted.{seconds};
 ghost use Rattle.jwt_once.specs.Steps.{IsTaken};
-ghost use Rattle.jwt_possession.specs.Possessions.{last_moment};
+ghost use Rattle.jwt_possession.specs.Possessions.{proof_times};
 
 use crate::policy::ProofPolicy;
-use jwt_once::{Entry, Once, Taken};
+use jwt_once::{Entry, Once, Taken, Times, issued_of, owner_of};
 use jwt_policy::Claims;
 use std::alloc::{AllocError, Global};
 
@@ -15,18 +15,22 @@ use std::alloc::{AllocError, Global};
 pub struct Possession {
     pub(crate) thumbprint: String,
     pub(crate) claims: Claims,
-    pub(crate) until: u64,
+    pub(crate) times: Times,
 }
 
-/// The last moment at which the policy accepts claims by their `iat`.
-fn last_moment(policy: &ProofPolicy, claims: &Claims) -> u64
-    ensures { result ≡ last_moment policy.now claims.now }
+/// The times of a proof with these claims.
+fn proof_times(policy: &ProofPolicy, claims: &Claims) -> Times
+    ensures { result ≡ proof_times policy.now claims.now }
 {
     let policy = policy.policy();
-    let age = u64::from(policy.max_age().unwrap_or(0)) + u64::from(policy.leeway());
-    match claims.iat() {
-        Some(iat) => u64::try_from(i128::from(iat) + i128::from(age)).unwrap_or(0),
+    let moment = match claims.iat() {
+        Some(iat) => seconds(iat),
         None => 0,
+    };
+    Times {
+        moment,
+        grace: u64::from(policy.max_age().unwrap_or(0)) + u64::from(policy.leeway()),
+        issued: issued_of(policy, claims),
     }
 }
 
@@ -38,7 +42,7 @@ pub(crate) fn seconds(moment: i64) -> u64
 }
 
 impl Possession {
-    ghost use Rattle.jwt_possession.specs.Possessions.{proved, id_of, proof_mark};
+    ghost use Rattle.jwt_possession.specs.Possessions.{proved, id_of, proof_mark, proof_owner};
 
     /// The possession of the key of this thumbprint, by a proof with these claims.
     pub(crate) fn of(
@@ -49,14 +53,14 @@ impl Possession {
     ) -> Result<Possession, AllocError>
         ensures thumbprint { IfOk result (λ p. (proved p).thumbprint ≡ thumbprint.now) }
         ensures claims { IfOk result (λ p. (proved p).claims ≡ claims) }
-        ensures until { IfOk result (λ p. (proved p).until ≡ last_moment policy.now claims) }
+        ensures times { IfOk result (λ p. (proved p).times ≡ proof_times policy.now claims) }
     {
-        let until = last_moment(policy, &claims);
+        let times = proof_times(policy, &claims);
         let thumbprint = String::from_str(alloc, thumbprint)?;
         Ok(Possession {
             thumbprint,
             claims,
-            until,
+            times,
         })
     }
 
@@ -81,34 +85,51 @@ impl Possession {
         self.claims.jti().unwrap_or("")
     }
 
-    /// The last moment at which the proof counts, in seconds since 1970-01-01T00:00:00Z: `iat`, the greatest age and the leeway of the
-    /// policy added. One before 1970 is 0.
-    pub fn until(&self) -> u64
-        ensures { result ≡ (proved self.now).until }
+    /// Whose the proof is: its key's. So nobody's proofs take more than a share of a memory, whatever `jti` they have.
+    pub fn owner(&self) -> [u8; 32]
+        ensures { result ≡ proof_owner (proved self.now) }
     {
-        self.until
+        owner_of(self.thumbprint().as_bytes(), b"")
     }
 
-    /// Takes the proof, unless it was taken before (RFC 9449, section 11.1): by the thumbprint of its key and its `jti`, until its last
-    /// moment. `now` is the moment at which it was judged.
+    /// Its times: its own moment is `iat`, whatever the policy; its grace is the policy's greatest age and leeway.
+    pub fn times(&self) -> Times
+        ensures { result ≡ (proved self.now).times }
+    {
+        self.times
+    }
+
+    /// Takes the proof, unless it was taken before (RFC 9449, section 11.1): by the thumbprint of its key and its `jti`, by its
+    /// times, with its key's share. `now` is the moment at which it was judged.
     pub fn take(&self, once: &mut Once, now: i64) -> Taken
-        ensures { IsTaken once.old (proof_mark (proved self.now)) (proved self.now).until (seconds now) result once.new }
+        ensures { IsTaken once.old (proof_mark (proved self.now)) (Some (proof_owner (proved self.now))) (proved self.now).times (seconds now) result once.new }
+    {
+        self.take_as(once, Some(self.owner()), now)
+    }
+
+    /// Takes the proof with this owner's share. Beside an access token that is the token's, by [`jwt_once::owner_in`]: whoever has a token can have as many
+    /// keys as tokens are given out, and no more subjects.
+    pub fn take_as(&self, once: &mut Once, owner: Option<[u8; 32]>, now: i64) -> Taken
+        ensures { IsTaken once.old (proof_mark (proved self.now)) owner (proved self.now).times (seconds now) result once.new }
     {
         once.take(
             self.thumbprint().as_bytes(),
             self.id().as_bytes(),
-            self.until(),
+            owner,
+            self.times(),
             seconds(now),
         )
     }
 
-    /// How the proof is held, for a store that several processes share: by the very mark by which [`Possession::take`] holds it, until the same
-    /// moment. The store says in one step that the mark is new, and holds it until then.
+    /// How the proof is held, for a store that several processes share: by the very mark by which [`Possession::take`] holds it, with the same
+    /// times. The store says in one step that the mark is new, and holds it until then.
     pub fn entry(&self) -> Entry
         ensures mark { result.mark ≡ proof_mark (proved self.now) }
-        ensures until { result.until ≡ (proved self.now).until }
+        ensures owner { result.owner ≡ Some (proof_owner (proved self.now)) }
+        ensures times { result.times ≡ (proved self.now).times }
     {
         let thumbprint = self.thumbprint().as_bytes();
-        Entry::of(thumbprint, self.id().as_bytes(), self.until())
+        let owner = Some(self.owner());
+        Entry::of(thumbprint, self.id().as_bytes(), owner, self.times())
     }
 }

@@ -8,7 +8,7 @@ ghost use Rattle.jwt_verify.specs.Asks.{IsToken};
 ghost use Rattle.jwt_verify.specs.Accepted.{IsAccepted, IsFault};
 ghost use Rattle.jwt_verify.specs.Reports.{FoundMemory, terms};
 ghost use Rattle.jwt_verify.specs.declared.report.Verdict.TheVariants.{Refused};
-ghost use Rattle.jwt_possession.specs.Possessions.{proved, last_moment};
+ghost use Rattle.jwt_possession.specs.Possessions.{proved, proof_times};
 ghost use Rattle.jwt_possession.specs.Proofs.{IsSignedByOwnKey, IsProof, IsProofFault};
 ghost use Rattle.jwt_possession.specs.declared.request.Request.{Request as AnyRequest};
 
@@ -165,7 +165,7 @@ pub fn judge_proof<'p>(
     ensures proof { IfOk result (λ p. (key : KeyParts) × ((proved p).thumbprint ≡ key.thumbprint)
         × IsProof policy.now (map meaning verifiers.now) now request.now proof.now key
         (proved p).claims) }
-    ensures until { IfOk result (λ p. (proved p).until ≡ last_moment policy.now (proved p).claims) }
+    ensures times { IfOk result (λ p. (proved p).times ≡ proof_times policy.now (proved p).claims) }
     ensures fault { IfErr result (IsProofFault policy.now (map meaning verifiers.now) now request.now
         proof.now) }
 {

@@ -1,34 +1,105 @@
-use jwt_once::{Entry, Lack, Once, Taken, entry_of};
+use jwt_once::{Entry, Lack, Once, Taken, Times, entry_of, owner_of};
 use jwt_policy::{Claims, Policy};
 use std::alloc::Global;
 use std::num::NonZeroUsize;
 use std::test::Fail;
 
+/// A memory with so much room, all of which may be one owner's, that is opened at no moment.
+fn memory(alloc: Global, room: usize) -> Result<Once, Fail> {
+    let room = NonZeroUsize::new(room).ok_or("no room")?;
+    Ok(Once::new(alloc, room, 0, room))
+}
+
+/// The times of something of this moment that is accepted no later, and was issued at any moment.
+fn until(moment: u64) -> Times {
+    Times {
+        moment,
+        grace: 0,
+        issued: 0,
+    }
+}
+
+/// The same of something that was issued at this moment.
+fn issued(issued: u64) -> Times {
+    Times {
+        moment: 10,
+        grace: 0,
+        issued,
+    }
+}
+
 #[test]
 fn a_token_is_taken_once(rt: HostRuntime) -> Result<(), Fail> {
-    let room = NonZeroUsize::new(2).ok_or("no room")?;
-    let mut once = Once::new(rt.alloc(), room);
-    assert_eq!(rt; once.take(b"i", b"a", 10, 5), Taken::New);
-    assert_eq!(rt; once.take(b"i", b"a", 10, 10), Taken::Seen);
-    assert_eq!(rt; once.take(b"j", b"a", 12, 10), Taken::New);
-    assert_eq!(rt; once.take(b"ia", b"", 12, 10), Taken::Full);
-    assert_eq!(rt; once.take(b"ia", b"", 12, 11), Taken::New);
-    assert_eq!(rt; once.take(b"i", b"a", 10, 9), Taken::Late);
-    assert_eq!(rt; once.take(b"i", b"a", 11, 11), Taken::Full);
-    assert_eq!(rt; once.take(b"j", b"a", 12, 0), Taken::Seen);
-    assert_eq!(rt; once.take(b"j", b"a", 14, 13), Taken::New);
+    let mut once = memory(rt.alloc(), 2)?;
+    assert_eq!(rt; once.take(b"i", b"a", None, until(10), 5), Taken::New);
+    assert_eq!(rt; once.take(b"i", b"a", None, until(10), 10), Taken::Seen);
+    assert_eq!(rt; once.take(b"j", b"a", None, until(12), 10), Taken::New);
+    assert_eq!(rt; once.take(b"ia", b"", None, until(12), 10), Taken::Full);
+    assert_eq!(rt; once.take(b"ia", b"", None, until(12), 11), Taken::New);
+    assert_eq!(rt; once.take(b"i", b"a", None, until(10), 9), Taken::Late);
+    assert_eq!(rt; once.take(b"i", b"a", None, until(11), 11), Taken::Full);
+    assert_eq!(rt; once.take(b"j", b"a", None, until(12), 0), Taken::Seen);
+    assert_eq!(rt; once.take(b"j", b"a", None, until(14), 13), Taken::New);
     assert!(rt; once.len() <= 2);
+    Ok(())
+}
+
+/// What was let go isn't new to who accepts it for longer, and what was issued before the memory was opened isn't new at all.
+#[test]
+fn what_was_let_go_is_late_to_everybody(rt: HostRuntime) -> Result<(), Fail> {
+    let alloc = rt.alloc();
+    let longer = Times {
+        moment: 10,
+        grace: 300,
+        issued: 0,
+    };
+    let mut once = memory(alloc, 2)?;
+    assert_eq!(rt; once.take(b"i", b"a", None, until(10), 5), Taken::New);
+    assert_eq!(rt; once.take(b"i", b"b", None, until(20), 11), Taken::New);
+    assert_eq!(rt; once.len(), 1);
+    assert_eq!(rt; once.take(b"i", b"a", None, longer, 11), Taken::Late);
+    assert_eq!(rt; once.take(b"i", b"c", None, longer, 11), Taken::Late);
+    let mut once = memory(alloc, 2)?;
+    assert_eq!(rt; once.take(b"i", b"a", None, longer, 5), Taken::New);
+    assert_eq!(rt; once.take(b"i", b"b", None, until(20), 11), Taken::New);
+    assert_eq!(rt; once.take(b"i", b"a", None, longer, 310), Taken::Seen);
+    let room = NonZeroUsize::new(2).ok_or("no room")?;
+    let mut once = Once::new(alloc, room, 6, room);
+    assert_eq!(rt; once.take(b"i", b"a", None, issued(5), 7), Taken::Late);
+    assert_eq!(rt; once.take(b"i", b"a", None, issued(6), 7), Taken::New);
+    Ok(())
+}
+
+/// Who has a share is told so, and nobody else is kept out by it.
+#[test]
+fn nobody_has_more_than_a_share(rt: HostRuntime) -> Result<(), Fail> {
+    let room = NonZeroUsize::new(3).ok_or("no room")?;
+    let share = NonZeroUsize::new(2).ok_or("no share")?;
+    let mut once = Once::new(rt.alloc(), room, 0, share);
+    let (one, two) = (owner_of(b"i", b"s"), owner_of(b"i", b"t"));
+    assert_eq!(rt; once.take(b"i", b"a", Some(one), until(10), 5), Taken::New);
+    assert_eq!(rt; once.take(b"i", b"b", Some(one), until(12), 5), Taken::New);
+    assert_eq!(rt;
+        once.take(b"i", b"c", Some(one), until(14), 5),
+        Taken::OwnFull
+    );
+    assert_eq!(rt; once.take(b"i", b"d", Some(two), until(14), 5), Taken::New);
+    assert_eq!(rt; once.take(b"i", b"e", Some(two), until(14), 5), Taken::Full);
+    assert_eq!(rt; once.take(b"i", b"f", None, until(14), 5), Taken::Full);
+    assert_eq!(rt; once.take(b"i", b"c", Some(one), until(14), 11), Taken::New);
+    assert_eq!(rt; once.len_of(&one), 2);
+    assert_eq!(rt; once.len_of(&two), 1);
     Ok(())
 }
 
 /// Run with each allocation refused in turn: a token is held where it is New, and is New where it isn't.
 #[test]
 fn a_refused_growth_takes_no_token(rt: HostRuntime) -> Result<(), Fail> {
-    let room = NonZeroUsize::new(3).ok_or("no room")?;
-    let mut once = Once::new(rt.alloc(), room);
+    let mut once = memory(rt.alloc(), 3)?;
+    let owner = Some(owner_of(b"i", b"s"));
     for jti in [&b"a"[..], b"b", b"c"].iter() {
         let before = once.len();
-        let taken = once.take(b"i", jti, 10, 5);
+        let taken = once.take(b"i", jti, owner, until(10), 5);
         let is_held = taken == Taken::New;
         assert!(rt; is_held || taken == Taken::OutOfMemory);
         assert_eq!(rt; once.len() > before, is_held);
@@ -55,8 +126,7 @@ fn taken(
 #[test]
 fn an_accepted_token_is_taken_until_its_end(rt: HostRuntime) -> Result<(), Fail> {
     let alloc = rt.alloc();
-    let room = NonZeroUsize::new(9).ok_or("no room")?;
-    let mut once = Once::new(alloc, room);
+    let mut once = memory(alloc, 9)?;
     let first = "{\"iss\":\"i\",\"jti\":\"a\",\"exp\":100}";
     let nameless = "{\"jti\":\"a\",\"exp\":100}";
     let longer = "{\"iss\":\"i\",\"jti\":\"a\",\"exp\":9223372036854775807}";
@@ -84,6 +154,15 @@ fn an_accepted_token_is_taken_until_its_end(rt: HostRuntime) -> Result<(), Fail>
         taken(alloc, &mut once, "{\"jti\":\"b\"}", 159)?,
         Err(Lack::NoEnd)
     );
+    assert_eq!(rt;
+        taken(
+            alloc,
+            &mut once,
+            "{\"jti\":\"b\",\"exp\":999,\"iat\":220}",
+            159
+        )?,
+        Err(Lack::Ahead)
+    );
     assert_eq!(rt; once.len(), 2);
     assert_eq!(rt; taken(alloc, &mut once, longer, 161)?, Ok(Taken::New));
     assert_eq!(rt; taken(alloc, &mut once, longer, i64::MAX)?, Ok(Taken::Seen));
@@ -95,15 +174,14 @@ fn an_accepted_token_is_taken_until_its_end(rt: HostRuntime) -> Result<(), Fail>
 #[test]
 fn moments_before_1970_are_one(rt: HostRuntime) -> Result<(), Fail> {
     let alloc = rt.alloc();
-    let room = NonZeroUsize::new(9).ok_or("no room")?;
-    let mut once = Once::new(alloc, room);
+    let mut once = memory(alloc, 9)?;
     let early = "{\"jti\":\"a\",\"exp\":-9223372036854775808}";
     assert_eq!(rt; taken(alloc, &mut once, early, i64::MIN)?, Ok(Taken::New));
     assert_eq!(rt; taken(alloc, &mut once, early, -1)?, Ok(Taken::Seen));
     let across = "{\"jti\":\"b\",\"exp\":-20}";
     assert_eq!(rt; taken(alloc, &mut once, across, -30)?, Ok(Taken::New));
-    assert_eq!(rt; taken(alloc, &mut once, across, 39)?, Ok(Taken::Seen));
-    assert_eq!(rt; taken(alloc, &mut once, across, 41)?, Ok(Taken::Late));
+    assert_eq!(rt; taken(alloc, &mut once, across, 60)?, Ok(Taken::Seen));
+    assert_eq!(rt; taken(alloc, &mut once, across, 61)?, Ok(Taken::Late));
     Ok(())
 }
 
@@ -126,16 +204,29 @@ fn an_entry_is_that_of_the_memory(rt: HostRuntime) -> Result<(), Fail> {
     let Ok(first) = first else {
         return Err(Fail::from("no entry"));
     };
-    assert_eq!(rt; first.until, 160);
+    assert_eq!(rt; first.owner, None);
+    assert_eq!(rt;
+        first.times,
+        Times {
+            moment: 100,
+            grace: 60,
+            issued: 0
+        }
+    );
     let longer = entry(
         alloc,
-        "{\"sub\":\"s\",\"iss\":\"i\",\"jti\":\"a\",\"exp\":-100}",
+        "{\"sub\":\"s\",\"iss\":\"i\",\"jti\":\"a\",\"exp\":-100,\"iat\":100}",
     )?;
     assert_eq!(rt;
         longer,
         Ok(Entry {
             mark: first.mark,
-            until: 0
+            owner: Some(owner_of(b"i", b"s")),
+            times: Times {
+                moment: 0,
+                grace: 60,
+                issued: 40
+            }
         })
     );
     let Ok(other) = entry(alloc, "{\"iss\":\"ia\",\"jti\":\"\",\"exp\":100}")? else {

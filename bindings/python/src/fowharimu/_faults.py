@@ -116,7 +116,8 @@ class TokenRefused(FowharimuError):
 
 class NotTaken(TokenRefused):
     """The token is accepted, and counts once. `fault` is `Seen`: it was taken before; `Late`: its `exp` and the leeway have passed by the greatest moment
-    that was judged at; `Full`: as many tokens are held as there is room for; `NoId`, `NoEnd`: it has no `jti`, or no `exp`."""
+    that was judged at; `Full`: as many tokens are held as there is room for; `NoId`, `NoEnd`: it has no `jti`, or no `exp`; `Ahead`: its `iat`
+    is further ahead of now than the leeway."""
 
     def __str__(self) -> str:
         return f"the token counts once, and isn't taken: {self.fault}"

@@ -14,7 +14,7 @@ from ._faults import NotTaken
 from ._seats import Seat
 
 # The names of the answers of enum fow_taken, from FOW_TAKEN_SEEN on.
-_WHY = {2: "Seen", 3: "Late", 4: "Full", 5: "NoId", 6: "NoEnd"}
+_WHY = {2: "Seen", 3: "Late", 4: "Full", 5: "NoId", 6: "NoEnd", 7: "Ahead"}
 # FOW_MARK_LEN.
 MARK = 32
 
@@ -30,7 +30,7 @@ def of_proof() -> Iterator[None]:
 
 
 class Once:
-    """The tokens that were taken, by their issuer and `jti`, at most so many. Validators may share it, whose policies have the same leeway, and threads, under a
+    """The tokens that were taken, by their issuer and `jti`, at most so many. Validators may share it, whatever their policies, and threads, under a
     lock. After fork parent and child each go on with their own. It isn't copied. What it holds is freed with it.
 
     Raises ValueError for no tokens, AnotherLibrary as Validator does, and MemoryError where memory is refused.

@@ -46,6 +46,7 @@ pub const FOW_TAKEN_LATE: u32 = 3;
 pub const FOW_TAKEN_FULL: u32 = 4;
 pub const FOW_TAKEN_NO_ID: u32 = 5;
 pub const FOW_TAKEN_NO_END: u32 = 6;
+pub const FOW_TAKEN_AHEAD: u32 = 7;
 
 pub const FOW_BOUND_NOT: u32 = 0;
 pub const FOW_BOUND: u32 = 1;

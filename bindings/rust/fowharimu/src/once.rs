@@ -15,7 +15,8 @@ use std::sync::Mutex;
 pub enum NotTaken {
     /// It was taken before.
     Seen,
-    /// Its `exp` and the leeway have passed by the greatest moment that the memory was told, so nobody can say whether it was taken.
+    /// Its `exp` and the leeway have passed by the greatest moment that the memory was told, or the memory has let go of what has its `exp`: nobody can say
+    /// whether it was taken.
     Late,
     /// As many tokens as there is room for are held, and none of them has passed.
     Full,
@@ -23,11 +24,13 @@ pub enum NotTaken {
     NoId,
     /// It has no `exp`, so it would have to be held for ever.
     NoEnd,
+    /// Its `iat` is further ahead of now than the leeway, so nobody can say when it is accepted for the first time.
+    Ahead,
 }
 
 /// A memory of tokens that count once, by their issuer and `jti`, each until its `exp` and the policy's leeway. A
-/// [`Validator`](crate::Validator::taking) asks it behind its verdict and the access rule; several validators may share it, whose policies
-/// have the same leeway. Threads share it.
+/// [`Validator`](crate::Validator::taking) asks it behind its verdict and the access rule; several validators may share it, whatever
+/// their policies. Threads share it.
 ///
 /// A token is let in once a memory: several processes or machines need one store that they share, which says in one step that issuer and `jti`
 /// are new, and holds them from then on.
@@ -111,6 +114,7 @@ impl Once {
             (sys::FOW_REFUSED, sys::FOW_TAKEN_FULL) => NotTaken::Full,
             (sys::FOW_REFUSED, sys::FOW_TAKEN_NO_ID) => NotTaken::NoId,
             (sys::FOW_REFUSED, sys::FOW_TAKEN_NO_END) => NotTaken::NoEnd,
+            (sys::FOW_REFUSED, sys::FOW_TAKEN_AHEAD) => NotTaken::Ahead,
             _ => return Err(Error::OutOfMemory),
         };
         Err(Error::NotTaken { why, outcome })

@@ -9,14 +9,14 @@ import java.lang.ref.Reference;
  * {@link Refused.Kind#NOT_TAKEN}. Whoever calls answers a request by one call of {@code validate}; {@code judge} takes nothing. The moment is then the
  * clock's: one far in the future closes the memory.
  *
- * <p>Validators may share it, whose policies have the same leeway, and threads, under a lock. A token is let in once a memory: several processes or machines
+ * <p>Validators may share it, whatever their policies, and threads, under a lock. A token is let in once a memory: several processes or machines
  * need one store that they share, which says in one step that issuer and {@code jti} are new, and holds them from then on. {@link #close} frees what it holds,
  * and else that is freed some time after the object is unreachable. A call on a validator over a closed memory throws IllegalStateException; one for which
  * memory is refused throws OutOfMemoryError.
  */
 public final class Once implements AutoCloseable {
     /** What became of a token that isn't taken, by the numbers of enum fow_taken. */
-    private static final String[] WHY = {null, null, "Seen", "Late", "Full", "NoId", "NoEnd"};
+    private static final String[] WHY = {null, null, "Seen", "Late", "Full", "NoId", "NoEnd", "Ahead"};
 
     private final Memory memory;
     private final Cleaner.Cleanable cleanable;

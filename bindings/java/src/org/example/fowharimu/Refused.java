@@ -29,7 +29,7 @@ public final class Refused extends Exception {
         /**
          * An accepted token that counts once ({@link Once}), or whose proof does ({@link Proofs}), and isn't taken. {@code Seen}: it was taken before; {@code Late}: its {@code exp} and the leeway
          * have passed by the greatest moment that was judged at; {@code Full}: as many tokens are held as there is room for; {@code NoId}, {@code NoEnd}: it
-         * has no {@code jti}, or no {@code exp}.
+         * has no {@code jti}, or no {@code exp}; {@code Ahead}: its {@code iat} is further ahead of now than the leeway.
          */
         NOT_TAKEN,
         /**
