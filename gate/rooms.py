@@ -21,7 +21,7 @@ PARTS = [
 ]
 LINES = {"-- ---- Cited by laws alone": LAW, "-- ---- Cited by contracts of private functions alone": PRIVATE}
 # Crates that nothing stands on.
-ASIDE = re.compile(r"_tests$|^jwt_(support|bench|example|tool)$")
+ASIDE = re.compile(r"_tests$|^jwt_(support|bench|tool)$")
 # Both forms of an import: names of a module, and the module by a name of its own.
 NAMES = re.compile(r"use Rattle\.(\w+)\.specs\.([\w.]+)\.\{([^}]*)\}")
 WHOLE = re.compile(r"use Rattle\.(\w+)\.specs\.([\w.]+) as (\w+)")

@@ -15,4 +15,6 @@ mod renewal;
 #[cfg(test)]
 mod request;
 #[cfg(test)]
+mod service;
+#[cfg(test)]
 mod urls;
