@@ -3,7 +3,8 @@
  * alone, which other work on the machine disturbs least. Each line has the greatest |t| of these. Where it stays below 4.5 nothing shows; a control, a call with a comparison behind it
  * that stops at the first difference, has to be far above. bench/timing compiles it, and runs it.
  *
- *     timing COUNT      so many calls of each kind
+ *     timing COUNT              so many calls of each kind
+ *     timing COUNT KIND CLASS   so many calls of one kind (0 to 3), all of one class (0 or 1), and prints nothing: for who counts their instructions
  */
 #include <fowharimu.h>
 #include <math.h>
@@ -11,7 +12,7 @@
 
 #include "octets.h"
 
-enum { TAG = 32, SECRETS = 64, WARM = 1000 };
+enum { TAG = 32, WARM = 1000 };
 
 static const char header_and_claims[] = "eyJhbGciOiJIUzI1NiJ9.eyJpc3MiOiJqb2UiLCJzdWIiOiJhbm4iLCJleHAiOjEzMDA4MTkzODB9";
 static const char claims[] = "{\"iss\":\"joe\",\"sub\":\"ann\",\"exp\":1300819380}";
@@ -23,7 +24,7 @@ typedef struct call {
     int class;
 } call;
 
-static fow_validator by[2][SECRETS];
+static fow_validator by = FOW_VALIDATOR_INIT;
 static uint8_t good[TAG];
 static char token[sizeof header_and_claims + 64];
 static size_t token_len;
@@ -59,14 +60,16 @@ static uint64_t ticks(void)
     return now;
 }
 
-static void open_by(fow_validator *validator, const uint8_t *secret)
+/* Opens the validator anew by this secret: where the one before lay in memory. */
+static void open_by(const uint8_t *secret)
 {
     static const char policy[] = "{\"algs\":[\"HS256\"]}";
     char text[64], keys[128];
     uint32_t fault;
     text[encode(secret, 32, text)] = 0;
     snprintf(keys, sizeof keys, "{\"keys\":[{\"kty\":\"oct\",\"k\":\"%s\"}]}", text);
-    CHECK(fow_open(validator, at(policy), sizeof policy - 1, at(keys), strlen(keys), &fault) == FOW_OK);
+    fow_close(&by);
+    CHECK(fow_open(&by, at(policy), sizeof policy - 1, at(keys), strlen(keys), &fault) == FOW_OK);
 }
 
 /* Reads a tag in base64url. */
@@ -93,7 +96,7 @@ static void show(const uint8_t *tag)
 static void judge(void)
 {
     fow_report report;
-    CHECK(fow_judge(&by[0][0], at(token), token_len, NOW, &report) == FOW_REFUSED);
+    CHECK(fow_judge(&by, at(token), token_len, NOW, &report) == FOW_REFUSED);
 }
 
 static int stops(void)
@@ -141,21 +144,27 @@ static double judged_and_stops(int class)
     return (double)(ticks() - from);
 }
 
-/* Secrets of zeros, or random ones. */
-static void nothing(int class)
-{
-    (void)class;
-}
-
 static double issued(int class)
 {
     static uint8_t out[512];
     size_t written;
     fow_report report;
-    fow_validator *one = &by[class][drawn() % SECRETS];
+    (void)class;
     uint64_t from = ticks();
-    CHECK(fow_issue(one, FOW_HS256, FOW_COMPACT, 0, at(""), 0, at(claims), sizeof claims - 1, out, sizeof out, &written, &report) == FOW_OK);
+    CHECK(fow_issue(&by, FOW_HS256, FOW_COMPACT, 0, at(""), 0, at(claims), sizeof claims - 1, out, sizeof out, &written, &report) == FOW_OK);
     return (double)(ticks() - from);
+}
+
+/* A secret of zeros, or a random one. */
+static void zeros_or_random(int class)
+{
+    static const uint8_t zeros[32];
+    uint8_t secret[32];
+    draw(secret, sizeof secret);
+    open_by(class ? secret : zeros);
+    /* (so that what reading the secret has left in the processor's caches isn't measured) */
+    issued(class);
+    issued(class);
 }
 
 static int in_order(const void *one, const void *other)
@@ -179,45 +188,60 @@ static double welch(const call *calls, size_t count)
     return spread > 0 ? (mean[0] - mean[1]) / sqrt(spread) : 0;
 }
 
-static void measure(const char *name, void (*prepare)(int), double (*run)(int), call *calls, size_t count)
+/* A kind of calls: what is made ready for a call of a class, and the call. */
+typedef struct kind {
+    const char *name;
+    void (*prepare)(int);
+    double (*run)(int);
+} kind;
+
+static const kind kinds[] = {
+    { "the tag: wrong in the first octet, or in the last", first_or_last, judged },
+    { "the tag: wrong in the last octet, or random", last_or_random, judged },
+    { "the control: a comparison behind the first that stops", first_or_last, judged_and_stops },
+    { "issuing: by a secret of zeros, or by random ones", zeros_or_random, issued },
+};
+
+static void measure(const kind *it, call *calls, size_t count)
 {
     double most = 0;
     for (size_t i = 0; i < WARM + count; i++) {
         int class = (int)(drawn() >> 40 & 1);
-        prepare(class);
-        double took = run(class);
+        it->prepare(class);
+        double took = it->run(class);
         if (i >= WARM)
             calls[i - WARM] = (call){ took, class };
     }
     qsort(calls, count, sizeof *calls, in_order);
     for (size_t i = 0; i < sizeof shares / sizeof *shares; i++)
         most = fmax(most, fabs(welch(calls, (size_t)(shares[i] * (double)count))));
-    printf("%s\t%zu\t%.0f\t%.1f\n", name, count, calls[count / 2].ticks, most);
+    printf("%s\t%zu\t%.0f\t%.1f\n", it->name, count, calls[count / 2].ticks, most);
     fflush(stdout);
 }
 
 int main(int argc, char **argv)
 {
     static const uint8_t zeros[32];
-    uint8_t secret[32], out[512];
+    uint8_t out[512];
     size_t written, count = argc > 1 ? strtoul(argv[1], NULL, 10) : 0;
     fow_report report;
-    CHECK(count >= 1000 && count <= 100000000);
-    call *calls = malloc(count * sizeof *calls);
-    CHECK(calls != NULL);
-    /* (those of both classes in turn, so that they lie in memory alike) */
-    for (int i = 0; i < SECRETS; i++) {
-        open_by(&by[0][i], zeros);
-        draw(secret, sizeof secret);
-        open_by(&by[1][i], secret);
-    }
-    CHECK(fow_issue(&by[0][0], FOW_HS256, FOW_COMPACT, 0, at(""), 0, at(claims), sizeof claims - 1, out, sizeof out, &written, &report) == FOW_OK);
+    CHECK((argc == 2 || argc == 4) && count >= 1 && count <= 100000000);
+    open_by(zeros);
+    CHECK(fow_issue(&by, FOW_HS256, FOW_COMPACT, 0, at(""), 0, at(claims), sizeof claims - 1, out, sizeof out, &written, &report) == FOW_OK);
     CHECK(memcmp(out, header_and_claims, sizeof header_and_claims - 1) == 0 && written == sizeof header_and_claims + 43);
     tag_of(out + sizeof header_and_claims);
-    measure("the tag: wrong in the first octet, or in the last", first_or_last, judged, calls, count);
-    measure("the tag: wrong in the last octet, or random", last_or_random, judged, calls, count);
-    measure("issuing: by a secret of zeros, or by random ones", nothing, issued, calls, count);
-    measure("the control: a comparison behind the first that stops", first_or_last, judged_and_stops, calls, count);
+    if (argc == 4) {
+        const kind *it = &kinds[strtoul(argv[2], NULL, 10) % (sizeof kinds / sizeof *kinds)];
+        for (size_t i = 0; i < count; i++) {
+            it->prepare(*argv[3] == '1');
+            it->run(*argv[3] == '1');
+        }
+        return 0;
+    }
+    call *calls = malloc(count * sizeof *calls);
+    CHECK(calls != NULL);
+    for (size_t i = 0; i < sizeof kinds / sizeof *kinds; i++)
+        measure(&kinds[i], calls, count);
     free(calls);
     return 0;
 }
