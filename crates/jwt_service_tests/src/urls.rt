@@ -170,11 +170,6 @@ fn a_redirection_elsewhere_is_refused(rt: HostRuntime) {
         assert_eq!(rt; led(url, location, &mut out), Err(Unwritten::Refused));
     }
     assert_eq!(rt;
-        led(b"https://a/k", b"//b/new", &mut out[..12]),
-        Err(Unwritten::Refused)
-    );
-    assert_eq!(rt; out, [0; 64]);
-    assert_eq!(rt;
         led(b"https://a/k", b"/new", &mut out[..12]),
         Err(Unwritten::TooShort)
     );
@@ -182,6 +177,23 @@ fn a_redirection_elsewhere_is_refused(rt: HostRuntime) {
         led(b"https://a/k", b"/new", &mut out[..13]),
         Ok(&b"https://a/new"[..])
     );
+}
+
+/// Whether it would have fitted or not.
+#[test]
+fn a_refused_redirection_writes_nothing(rt: HostRuntime) {
+    let mut long = [0; 64];
+    let mut short = [0; 12];
+    assert_eq!(rt;
+        led(b"https://a/k", b"//b/new", &mut long),
+        Err(Unwritten::Refused)
+    );
+    assert_eq!(rt;
+        led(b"https://a/k", b"//b/new", &mut short),
+        Err(Unwritten::Refused)
+    );
+    assert_eq!(rt; long, [0; 64]);
+    assert_eq!(rt; short, [0; 12]);
 }
 
 #[test]
