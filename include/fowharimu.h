@@ -505,7 +505,7 @@ uint32_t fow_expect_half_hash(fow_validator *validator, const uint8_t *token, si
 
 /* A memory of tokens that count once, by their issuer and `jti` (RFC 7519, section 4.1.7): what keeps a token that was caught from being shown again, as
  * DPoP proofs, client assertions (RFC 7523) and logout tokens ask for. It is asked behind the verdict, with each token that was accepted and that no access
- * rule denies, as the last step before the request is let through. It takes some 130 octets for each token that it holds. The members are private.
+ * rule denies, as the last step before the request is let through. It takes some 190 octets for each token that it holds, and 310 where that has a `sub`. The members are private.
  *
  * One memory lets a token in once. A process that has one of its own lets each token in once a process, and several processes or machines need one store
  * that they share. Such a store has to do in one step what fow_once_take does: say of issuer and `jti` that they are new, and hold them for everybody from

@@ -59,7 +59,7 @@ var whyNotTaken = map[C.uint32_t]string{
 	C.FOW_TAKEN_AHEAD:  "Ahead",
 }
 
-// OpenOnce makes an empty memory for so many tokens, each of which takes some 130 octets. Room is needed for as many as are accepted within the lifetime
+// OpenOnce makes an empty memory for so many tokens, each of which takes some 190 octets, 310 with a `sub`. Room is needed for as many as are accepted within the lifetime
 // of one: where it is too small, good tokens are refused. The error is ErrOnce for no tokens, ErrOutOfMemory, or a *LibraryError where another
 // library was loaded than this package was compiled for.
 func OpenOnce(tokens uint) (*Once, error) {

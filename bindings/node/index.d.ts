@@ -242,7 +242,7 @@ export class Access {
  * in once a memory, so once a worker: several workers, processes or machines need one store that they share. What is never closed is freed with the object.
  */
 export class Once {
-  /** A memory for so many tokens, from 1 to 4,294,967,295, each of which takes some 130 octets. Throws RangeError, AnotherLibrary, and an Error where memory is refused. */
+  /** A memory for so many tokens, from 1 to 4,294,967,295, each of which takes some 190 octets, 310 with a `sub`. Throws RangeError, AnotherLibrary, and an Error where memory is refused. */
   constructor(tokens: number);
   /** Frees what is held, and forgets what was taken. It may be called twice. Validators over it throw Closed then. */
   close(): void;

@@ -50,7 +50,7 @@ struct Memory {
 unsafe impl Send for Memory {}
 
 impl Once {
-    /// An empty memory for so many tokens, each of which takes some 130 octets. Room is needed for as many as are accepted within the lifetime
+    /// An empty memory for so many tokens, each of which takes some 190 octets, 310 with a `sub`. Room is needed for as many as are accepted within the lifetime
     /// of one: where it is too small, good tokens are refused.
     ///
     /// # Errors

@@ -24,7 +24,7 @@ public final class Once implements AutoCloseable {
     /**
      * Makes an empty memory. Room is needed for as many tokens as are accepted within the lifetime of one: where it is too small, good tokens are refused.
      *
-     * @param tokens for how many tokens there is room, each of which takes some 130 octets
+     * @param tokens for how many tokens there is room, each of which takes some 190 octets, 310 with a {@code sub}
      * @throws IllegalArgumentException for a number below 1
      * @throws UnsatisfiedLinkError where there is no library for this machine, or one of another interface
      */
