@@ -39,7 +39,7 @@ fn a_token_is_taken_once(rt: HostRuntime) -> Result<(), Fail> {
     assert_eq!(rt; once.take(b"i", b"a", None, until(10), 9), Taken::Late);
     assert_eq!(rt; once.take(b"i", b"a", None, until(11), 11), Taken::Full);
     assert_eq!(rt; once.take(b"j", b"a", None, until(12), 0), Taken::Seen);
-    assert_eq!(rt; once.take(b"j", b"a", None, until(14), 13), Taken::New);
+    assert_eq!(rt; once.take(b"j", b"a", None, until(14), 13), Taken::Seen);
     assert!(rt; once.len() <= 2);
     Ok(())
 }
@@ -164,7 +164,7 @@ fn an_accepted_token_is_taken_until_its_end(rt: HostRuntime) -> Result<(), Fail>
         Err(Lack::Ahead)
     );
     assert_eq!(rt; once.len(), 2);
-    assert_eq!(rt; taken(alloc, &mut once, longer, 161)?, Ok(Taken::New));
+    assert_eq!(rt; taken(alloc, &mut once, longer, 161)?, Ok(Taken::Seen));
     assert_eq!(rt; taken(alloc, &mut once, longer, i64::MAX)?, Ok(Taken::Seen));
     assert_eq!(rt; taken(alloc, &mut once, first, 100)?, Ok(Taken::Late));
     Ok(())
