@@ -16,7 +16,7 @@ HEAD = "| Name | For C | Meaning | What to do |\n|---|---|---|---|\n"
 ROW = re.compile(r"^\| `(\w+)` \| `(FOW_\w+)` \| (.*?) \| (.*) \|$", re.MULTILINE)
 # What a fault is of, by the first words of its constant's name.
 KINDS = {"POLICY": "policy", "KEYS": "keys", "TEXT": "token", "FORM": "token", "WORK": "token", "CALLS": "token", "SIG": "token",
-         "CLAIM": "token", "ISSUE": "issue", "ACCESS": "access", "DENIED": "denied", "PROOF": "proof"}
+         "CLAIM": "token", "ISSUE": "issue", "ACCESS": "access", "DENIED": "denied", "PROOF": "proof", "BINDING": "binding"}
 
 
 def faults():

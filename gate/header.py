@@ -18,6 +18,7 @@ SENTENCES = {
     "holds what it held": ["same"],
     "what is held stays": ["same"],
     "both hold what they held": ["same", "same_rule"],
+    "the validator and the proof stay as they are": ["same", "same_proof"],
     "no claims and no payload are kept": ["claims", "payload"],
     "the policy and the key set stay": ["alike"],
     "*report is written for FOW_REFUSED alone": ["unsaid"],

@@ -75,7 +75,7 @@ enum fow_status {
     FOW_ABSENT = 6,        /* there is no such thing */
     FOW_DENIED = 7,        /* of fow_denied alone: the accepted token may not do this */
     FOW_UNNAMED = 8,       /* of fow_unverified_issuer alone: the token names no issuer */
-    FOW_NOT_EXPECTED = 9   /* of fow_expect_text, fow_expect_half_hash, fow_certificate_holds and fow_possession_fresh alone: the accepted token, or proof, hasn't what is expected of it */
+    FOW_NOT_EXPECTED = 9   /* of fow_expect_text, fow_expect_half_hash and fow_possession_fresh alone: the accepted token, or proof, hasn't what is expected of it */
 };
 
 /* Why something is refused: one number for each name that the program `jwt` prints. fow_fault_name gives the name. */
@@ -195,7 +195,13 @@ enum fow_fault {
     FOW_PROOF_OTHER_URI = 1302,          /* `htu` isn't the request's URI, or one of the two has no normal form */
     FOW_PROOF_OTHER_NONCE = 1303,        /* `nonce` isn't the one that was asked for */
     FOW_PROOF_OTHER_ACCESS_TOKEN = 1304, /* `ath` isn't the hash of the access token that came with it */
-    FOW_PROOF_OTHER_KEY = 1305           /* the access token that came with it is bound to another key, or to none */
+    FOW_PROOF_OTHER_KEY = 1305,          /* the access token that came with it is bound to another key, or to none */
+    FOW_PROOF_PATH_FORM = 1306,          /* the request's own path can be read in more ways than one */
+
+    /* why a token may not be used by whoever sent it */
+    FOW_BINDING_UNKNOWN = 1401,          /* it is bound in a way that isn't known: `cnf` is no object, is empty, or has a member that is neither `jkt` nor `x5t#S256` */
+    FOW_BINDING_OTHER_KEY = 1402,        /* it is bound to a key, and no proof of it is kept */
+    FOW_BINDING_OTHER_CERTIFICATE = 1403 /* it is bound to a certificate, and this one isn't it, or none was shown */
 };
 
 /* The part of a token that FOW_FORM_BASE64 names. */
@@ -508,8 +514,8 @@ uint32_t fow_expect_half_hash(fow_validator *validator, const uint8_t *token, si
  * rule denies, as the last step before the request is let through. It takes some 190 octets for each token that it holds, and 310 where that has a `sub`. The members are private.
  *
  * One memory lets a token in once. A process that has one of its own lets each token in once a process, and several processes or machines need one store
- * that they share. Such a store has to do in one step what fow_once_take does: say of issuer and `jti` that they are new, and hold them for everybody from
- * then on until `exp` and the leeway have passed; drop none before; and where it can't be asked, or has no room, the token is refused.
+ * that they share. Such a store has to do in one step what fow_once_take does (fow_once_entry, docs/ONCE.md); and where it can't be asked, or has no room, the token
+ * is refused.
  *
  * It may be asked about by as many validators as there are, whatever their policies: what it has let go of is FOW_TAKEN_LATE to all of them from then on, also to one
  * with a longer `leeway`. A fow_once is used by one call at a time: the lock that threads need is the caller's. Take it for the call alone. */
@@ -526,22 +532,31 @@ enum fow_taken {
     FOW_TAKEN_NEW = 1,     /* it wasn't taken before, and is held from now on */
     FOW_TAKEN_SEEN = 2,    /* it was taken before */
     FOW_TAKEN_LATE = 3,    /* its last moment has passed by the greatest moment that the memory was told, or the memory has let go of what has its `exp`: nobody can say */
-    FOW_TAKEN_FULL = 4,    /* as many tokens as there is room for are held, and none of them has passed */
+    FOW_TAKEN_FULL = 4,    /* as many tokens as there is room for are held, and none of them has passed: everybody waits */
     FOW_TAKEN_NO_ID = 5,   /* it has no `jti` */
     FOW_TAKEN_NO_END = 6,  /* it has no `exp`, so it would have to be held for ever */
-    FOW_TAKEN_AHEAD = 7    /* its `iat` is further ahead of now than the leeway, so nobody can say when it is accepted for the first time */
+    FOW_TAKEN_AHEAD = 7,   /* its `iat` is further ahead of now than the leeway, so nobody can say when it is accepted for the first time */
+    FOW_TAKEN_OWN_FULL = 8, /* its owner has as many as one owner may, and none of them has passed: this owner waits, and nobody else */
+    FOW_TAKEN_BEFORE = 9   /* it was issued before this memory was opened, or says no `iat`: it may have been taken by the memory that was there before */
 };
 
 /* Makes an empty memory for at most so many tokens. Room is needed for as many as are accepted within the lifetime of one: where it is too small, tokens that
  * are good are refused.
  *
- * Proved: FOW_OK: the memory is held from now on, is empty and has room for so many. FOW_REFUSED: `tokens` is 0. Where the answer isn't FOW_OK, the
- * fow_once holds what it held. */
-uint32_t fow_once_open(fow_once *once, size_t tokens);
+ * `share` is how many one owner may have at a time, so that one client can't fill the memory for everybody; 0 is a sixteenth of `tokens`, and one at least. The owner
+ * of a token is its issuer and `sub`; a token without `sub` has none, and no share.
+ *
+ * `opened` is the moment from which on the memory knows everything: what may have been accepted before it, by its `iat` and the leeway, is FOW_TAKEN_BEFORE, and so is a
+ * token without `iat`. Hand in the second after this one (time(NULL) + 1): then a restart refuses some tokens, and lets none in twice. With 0 it lets in each
+ * token once more: choose that where tokens live so long that a restart may not refuse them, such as links in mails, or keep a store that outlives the process.
+ *
+ * Proved: FOW_OK: the memory is held from now on, is empty, has room for so many and that share, and is opened at that moment. FOW_REFUSED: `tokens` is 0. Where the
+ * answer isn't FOW_OK, the fow_once holds what it held. */
+uint32_t fow_once_open(fow_once *once, size_t tokens, size_t share, uint64_t opened);
 
 /* Takes the token that was accepted last. `now` is the moment of that verdict, and no other: the greatest moment that was told is the one that is meant, so
  * that a clock that goes back lets nothing in again. So one moment far in the future closes the memory: each token is FOW_TAKEN_LATE then, until it is opened
- * anew. A moment before 1970 counts as 0. A service answers 401 to FOW_REFUSED, as to a token that isn't accepted, and lets through nothing but FOW_OK.
+ * anew. A moment before 1970 counts as 0. What a service answers says fow_taken_outcome; it lets through nothing but FOW_OK.
  *
  * Proved: FOW_OK: it wasn't taken before, and is held from now on until `exp` and the policy's leeway; *taken is FOW_TAKEN_NEW. FOW_REFUSED: *taken says
  * why it isn't taken, and nothing new is held. FOW_ABSENT: the last verdict was no acceptance. FOW_NOT_OPEN: the validator or the memory holds nothing. No
@@ -552,14 +567,26 @@ uint32_t fow_once_take(fow_once *once, fow_validator *validator, int64_t now, ui
 /* How many octets the mark has by which a token that counts once is held. */
 #define FOW_MARK_LEN 32
 
-/* Tells how the token that was accepted last is held, for a store that several processes share, and takes nothing: `mark` begins with the digest of its issuer
- * and `jti`, of FOW_MARK_LEN octets, and *until is the last moment at which it counts, `exp` and the policy's leeway. No issuer and an empty one have one mark. The
- * store says in one step that the mark is new, and holds it until then.
+/* How a token or a proof that counts once is held. A store that several processes share keeps of each what stands here, and beside them four numbers: `opened`, as
+ * of fow_once_open; `latest`, the greatest moment that it was told; `span`, the greatest `grace`; and `horizon`, which is 0 at first. It answers, in one step: Late
+ * where `issued` is before `opened`, or `moment` before `horizon`, or `moment` + `grace` before `latest`; else Seen where it has the mark; and else it may let go of
+ * one whose `moment` + `span` is before `latest`, the one with the least moment, by which `horizon` becomes at least that moment + 1; it refuses where there is no
+ * room, or where the owner has its share; else it keeps the entry, and the token is new (docs/ONCE.md). */
+typedef struct fow_entry {
+    uint8_t mark[FOW_MARK_LEN];  /* the digest of issuer and `jti`; of a proof, of the thumbprint of its key and its `jti`. No issuer and an empty one have one mark */
+    uint8_t owner[FOW_MARK_LEN]; /* by which its owner's share is counted, where `owned` is 1 */
+    uint64_t owned;              /* 1: it has an owner; 0: it has none, and no share */
+    uint64_t moment;             /* what it has of itself, whatever the policy: `exp` of a token, `iat` of a proof; before 1970 it is 0 */
+    uint64_t grace;              /* how many seconds behind that moment it is accepted: the policy's leeway, and of a proof its `max_age` as well */
+    uint64_t issued;             /* the earliest moment at which it may have been accepted: `iat` less the leeway; 0 where there is no `iat` */
+} fow_entry;
+
+/* Tells how the token that was accepted last is held, for a store that several processes share, and takes nothing. `now` is the moment of that verdict.
  *
- * Proved: FOW_OK: they are those by which fow_once_take holds it. FOW_REFUSED: it can't be held, and *lacks says why: FOW_TAKEN_NO_ID or FOW_TAKEN_NO_END.
- * FOW_TOO_SHORT: mark_len is less than FOW_MARK_LEN. FOW_ABSENT: the last verdict was no acceptance. FOW_NOT_OPEN: nothing is held. The validator holds what it
- * held, and *mark and *until aren't written unless the answer is FOW_OK. */
-uint32_t fow_once_entry(fow_validator *validator, uint8_t *mark, size_t mark_len, uint64_t *until, uint32_t *lacks);
+ * Proved: FOW_OK: *entry is how fow_once_take holds it. FOW_REFUSED: it can't be held, and *lacks says why: FOW_TAKEN_NO_ID, FOW_TAKEN_NO_END or FOW_TAKEN_AHEAD.
+ * FOW_ABSENT: the last verdict was no acceptance. FOW_NOT_OPEN: nothing is held. The validator holds what it held, and *entry isn't written unless the answer is
+ * FOW_OK. */
+uint32_t fow_once_entry(fow_validator *validator, int64_t now, fow_entry *entry, uint32_t *lacks);
 
 /* Frees what is held. It may be called twice, and before anything was opened. What was taken is forgotten: a token may come again in the memory that is opened
  * next. Proved: nothing is held. */
@@ -571,8 +598,9 @@ void fow_once_close(fow_once *once);
  *     fow_possession possession = FOW_POSSESSION_INIT;
  *     if (fow_possession_open(&possession, policy, policy_len, &fault) != FOW_OK) { ... }
  *     ... fow_judge accepts the access token; then, with the value of the request's only header `DPoP`:
- *     if (fow_possession_judge(&possession, &validator, proof, proof_len, method, method_len, uri, uri_len, nonce, nonce_len, token, token_len, now, &fault) != FOW_OK) { ... 401 }
- *     if (fow_possession_take(&possession, &once, now, &taken) != FOW_OK) { ... 401 }
+ *     if (fow_possession_judge(&possession, &validator, proof, proof_len, method, method_len, uri, uri_len, nonce, nonce_len, token, token_len, now, &fault) != FOW_OK) { ... }
+ *     if (fow_shown(&validator, &possession, NULL, 0, &fault) != FOW_OK) { ... }
+ *     if (fow_possession_take(&possession, &once, now, &taken) != FOW_OK) { ... }
  *     fow_possession_close(&possession);
  *
  * A fow_possession is used by one call at a time. */
@@ -593,7 +621,8 @@ uint32_t fow_possession_open(fow_possession *possession, const uint8_t *policy, 
 
 /* Judges a proof to a request by the proved verifiers (RFC 9449, section 4.3), and keeps what it shows until the next one is judged. `proof` is the value of the
  * request's header `DPoP`: refuse a request that has more than one (step 1). `method` is the request's, by case. `uri` is the one that the client sees, with scheme and
- * host, which behind a proxy come from your configuration and never from a header that a stranger can write; its query and fragment aren't looked at. `nonce` is the
+ * host, which behind a proxy come from your configuration and never from a header that a stranger can write, and with the path as it came in the line of the request,
+ * before anything has decoded it; its query and fragment aren't looked at. `nonce` is the
  * one that you asked for, and where nonce_len is 0 none was. `token` is the access token that came with the proof, once more, and the claims that it is
  * bound by are those that `validator` accepted last, so judge the access token before. Where token_len is 0 none came, as in a request for one
  * (section 5): then `ath` and `cnf` aren't looked at, nor is the validator, which may hold nothing.
@@ -602,14 +631,19 @@ uint32_t fow_possession_open(fow_possession *possession, const uint8_t *policy, 
  * `http://` or `https://`, in any case; where up to the next slash stand a host that isn't empty, and nothing, a colon, or a colon and digits, and no `@`; and where
  * two hexadecimal digits stand behind each percent sign. Nothing else of it is looked at, such as which octets a host has, or how great the port is.
  *
+ * The path has to be one of which every reader makes the same, else nobody can say for what the proof is: empty, or its own normal form, with no empty segment but the last and
+ * no dot segment, also where what stands behind a `;` is left out; with each octet that may stand for itself as itself, the others in percent-encoding by capital digits,
+ * and none of these a slash, a backslash, a percent sign, a semicolon or a control.
+ *
  * A proof that is accepted may come again: let the request through only where fow_possession_take answers FOW_OK as well. What a service answers to another status says
- * fow_proof_outcome: 401 to FOW_REFUSED, with `DPoP error="use_dpop_nonce"` to FOW_PROOF_OTHER_NONCE (section 9), `error="invalid_token"` to FOW_PROOF_OTHER_KEY, else
- * `error="invalid_dpop_proof"`.
+ * fow_proof_outcome: 400 to FOW_PROOF_PATH_FORM; 401 to each other FOW_REFUSED, with `DPoP error="use_dpop_nonce"` to FOW_PROOF_OTHER_NONCE (section 9),
+ * `error="invalid_token"` to FOW_PROOF_OTHER_KEY, else `error="invalid_dpop_proof"`.
  *
  * Proved: FOW_OK: the octets are a proof to this request at this moment, of the key that the access token is bound to, and it is kept. FOW_REFUSED: they aren't, and
- * *fault is the first cause: a fault of a token, FOW_PROOF_NOT_COMPACT to FOW_PROOF_KEY_UNREADABLE, a fault of a token again, where the policy doesn't
- * accept it by the key in its own header, FOW_PROOF_OTHER_METHOD to FOW_PROOF_OTHER_KEY; ahead of these, where the method, the URI or the nonce isn't in UTF-8,
- * FOW_PROOF_OTHER_METHOD, FOW_PROOF_OTHER_URI or FOW_PROOF_OTHER_NONCE. FOW_ABSENT: the last verdict was no acceptance, or this token has another payload than the
+ * *fault is the first cause: a fault of a token, FOW_PROOF_NOT_COMPACT to FOW_PROOF_KEY_UNREADABLE, FOW_PROOF_OTHER_KEY, which costs no verification, a fault of a token
+ * again, where the policy doesn't accept it by the key in its own header, FOW_PROOF_OTHER_METHOD, FOW_PROOF_PATH_FORM, FOW_PROOF_OTHER_URI to
+ * FOW_PROOF_OTHER_ACCESS_TOKEN; ahead of these, where the method, the URI or the nonce isn't in UTF-8, FOW_PROOF_OTHER_METHOD, FOW_PROOF_OTHER_URI or
+ * FOW_PROOF_OTHER_NONCE. FOW_ABSENT: the last verdict was no acceptance, or this token has another payload than the
  * one that was accepted. FOW_NOT_OPEN: the fow_possession holds nothing, or a token came and the validator does. With any status but FOW_OK no proof is kept. The
  * policy for proofs stays. The validator holds what it held. */
 uint32_t fow_possession_judge(fow_possession *possession, fow_validator *validator, const uint8_t *proof, size_t proof_len, const uint8_t *method,
@@ -617,10 +651,11 @@ uint32_t fow_possession_judge(fow_possession *possession, fow_validator *validat
     uint32_t *fault);
 
 /* Takes the proof that was accepted last (RFC 9449, section 11.1). `now` is the moment of that verdict, and no other, as with fow_once_take. Proofs have a fow_once of
- * their own, or one that they share with tokens: a proof is known by the thumbprint of its key and its `jti`, so a stranger can't use up the `jti` of another's.
+ * their own, or one that they share with tokens: a proof is known by the thumbprint of its key and its `jti`, so a stranger can't use up the `jti` of another's. Its owner
+ * is that of the access token that it came with, since keys cost nothing; where none came, it is its key.
  *
  * Proved: FOW_OK: it wasn't taken before, and is held from now on until its `iat`, the policy's `max_age` and its leeway; *taken is FOW_TAKEN_NEW. FOW_REFUSED: *taken
- * says why it isn't taken, FOW_TAKEN_SEEN, FOW_TAKEN_LATE or FOW_TAKEN_FULL, and nothing new is held. FOW_ABSENT: no proof is kept. FOW_NOT_OPEN: the
+ * says why it isn't taken, and nothing new is held. FOW_ABSENT: no proof is kept. FOW_NOT_OPEN: the
  * fow_possession or the memory holds nothing. What counts in the memory stays. The fow_possession holds what it held. */
 uint32_t fow_possession_take(fow_possession *possession, fow_once *once, int64_t now, uint32_t *taken);
 
@@ -634,13 +669,11 @@ uint32_t fow_possession_take(fow_possession *possession, fow_once *once, int64_t
  * holds what it held. */
 uint32_t fow_possession_thumbprint(fow_possession *possession, uint8_t *out, size_t out_len, size_t *written);
 
-/* Tells how the proof that was accepted last is held, for a store that several processes share, and takes nothing: `mark` begins with the digest of the thumbprint of
- * its key and its `jti`, of FOW_MARK_LEN octets, and *until is the last moment at which it counts: its `iat`, the policy's `max_age` and its leeway. The store says in
- * one step that the mark is new, and holds it until then, as with fow_once_entry. *lacks is FOW_TAKEN_NOTHING: each proof has a `jti` and a last moment.
+/* Tells how the proof that was accepted last is held, for a store that several processes share, and takes nothing, as fow_once_entry.
  *
- * Proved: FOW_OK: they are those by which fow_possession_take holds it. FOW_TOO_SHORT: mark_len is less than FOW_MARK_LEN. FOW_ABSENT: no proof is kept.
- * FOW_NOT_OPEN: nothing is held. The fow_possession holds what it held, and *mark and *until aren't written unless the answer is FOW_OK. */
-uint32_t fow_possession_entry(fow_possession *possession, uint8_t *mark, size_t mark_len, uint64_t *until, uint32_t *lacks);
+ * Proved: FOW_OK: *entry is how fow_possession_take holds it. FOW_ABSENT: no proof is kept. FOW_NOT_OPEN: nothing is held. The fow_possession holds what it held, and
+ * *entry isn't written unless the answer is FOW_OK. */
+uint32_t fow_possession_entry(fow_possession *possession, fow_entry *entry);
 
 /* Writes the names of the algorithms of the policy for proofs, with a space between two: what a challenge says as `algs` (RFC 9449, section 7.1). It takes no memory.
  *
@@ -672,27 +705,24 @@ uint32_t fow_possession_fresh(fow_possession *possession, const uint8_t *secret,
 /* Frees what is held. It may be called twice, and before anything was opened. Proved: nothing is held. */
 void fow_possession_close(fow_possession *possession);
 
-/* How a token is bound, by its claim `cnf` (RFC 7800): the sum of those that hold. */
+/* How a token is bound (RFC 7800): the sum of those that hold. */
 enum fow_binding {
-    FOW_BOUND_NOT = 0,        /* there is no `cnf`: whoever has the token may use it */
-    FOW_BOUND = 1,            /* there is a `cnf`; alone, it is bound in a way that isn't known here */
-    FOW_BOUND_KEY = 2,        /* with the thumbprint of a key, `jkt`: a proof by that key has to come with it */
-    FOW_BOUND_CERTIFICATE = 4 /* with the digest of a certificate, `x5t#S256`: see fow_certificate_holds */
+    FOW_BOUND_NOT = 0,        /* there is no `cnf` */
+    FOW_BOUND_KEY = 1,        /* with the thumbprint of a key, `jkt` */
+    FOW_BOUND_CERTIFICATE = 2 /* with the digest of a certificate, `x5t#S256` */
 };
 
-/* Tells how the token that was accepted last is bound. A service that takes tokens of bearers refuses one that is bound: else whoever stole it can use
- * it (RFC 9449, section 7.2; RFC 8705, section 3).
+/* Whether each way in which the token that was accepted last is bound, by its claim `cnf` (RFC 7800, section 3.1), was shown: the key of `jkt` by the proof that
+ * `possession` keeps (RFC 9449, section 6.1), the certificate of `x5t#S256` by its DER, as whoever ended TLS has it (RFC 8705, section 3.1); where der_len is 0, none was
+ * shown. That the client holds the certificate's key is shown by TLS, and not asked here. Ask it behind each verdict that accepts, also where no proof and no
+ * certificate came: with an empty `possession` a token that is bound to a key is refused, so that nobody uses it as a bearer's. A service that takes no token of bearers
+ * refuses one whose *ways is FOW_BOUND_NOT.
  *
- * Proved: FOW_OK: *how is the sum of enum fow_binding. FOW_ABSENT: the last verdict was no acceptance. FOW_NOT_OPEN: nothing is held. With any status but
- * FOW_OK *how is FOW_BOUND. The validator holds what it held. */
-uint32_t fow_bound(fow_validator *validator, uint32_t *how);
-
-/* Whether the token that was accepted last is bound to the certificate of the client, whose DER `der` is, as whoever ended TLS has it (RFC 8705, section 3). That the
- * client holds its key is shown by TLS, and not asked here.
- *
- * Proved: FOW_OK: `x5t#S256` in `cnf` is base64url of the SHA-256 digest of these octets. FOW_NOT_EXPECTED: it isn't, or there is none. FOW_ABSENT: the last
- * verdict was no acceptance. FOW_NOT_OPEN: nothing is held. The validator holds what it held. */
-uint32_t fow_certificate_holds(fow_validator *validator, const uint8_t *der, size_t der_len);
+ * Proved: FOW_OK: the token has no `cnf`; or `cnf` is an object with a member, and each of its members is one of these two and was shown; *ways
+ * is the sum of enum fow_binding. FOW_REFUSED: *fault is the first
+ * of FOW_BINDING_UNKNOWN, FOW_BINDING_OTHER_KEY and FOW_BINDING_OTHER_CERTIFICATE. FOW_ABSENT: the last verdict was no acceptance. FOW_NOT_OPEN: `validator`
+ * holds nothing. With any status but FOW_OK *ways is FOW_BOUND_NOT. The validator and the proof stay as they are. */
+uint32_t fow_shown(fow_validator *validator, fow_possession *possession, const uint8_t *der, size_t der_len, uint32_t *ways, uint32_t *fault);
 
 /* Issues the claims as a token signed by HMAC: `alg` is FOW_HS256, FOW_HS384 or FOW_HS512, `form` is enum fow_form, and `typ` the
  * protected header's `typ` in UTF-8, such as `at+jwt`; where typ_len is 0, it has none. In compact and flattened form key `key` of
@@ -725,12 +755,15 @@ enum fow_outcome {
     FOW_SEVERAL = 2,       /* there is more than one header `Authorization` */
     FOW_NO_TOKEN = 3,      /* there is none, or its scheme is none that is taken */
     FOW_MALFORMED = 4,     /* what stands behind the scheme is no b64token */
-    FOW_NOT_ACCEPTED = 5,  /* it is refused, is bound to another key or certificate, or is bound and came as a bearer's */
+    FOW_NOT_ACCEPTED = 5,  /* it is refused, is bound to a key or certificate that wasn't shown, or counts once and isn't new */
     FOW_SCOPE_MISSING = 6, /* a scope that the access rule asks for is missing */
     FOW_NOT_GRANTED = 7,   /* the claims don't meet the access rule otherwise */
     FOW_KEYS_TOO_OLD = 8,  /* the keys are too old */
-    FOW_PROOF_REFUSED = 9, /* there is no header `DPoP`, or several, or its proof isn't one for this request, or was taken before */
-    FOW_NONCE_WANTED = 10  /* the proof has no nonce, or another than the one that is asked for */
+    FOW_PROOF_REFUSED = 9, /* there is no header `DPoP`, or several, or its proof isn't one for this request, or isn't new */
+    FOW_NONCE_WANTED = 10, /* the proof has no nonce, or another than the one that is asked for */
+    FOW_PATH_FORM = 11,    /* the path of the request can be read in more ways than one */
+    FOW_SHARE_USED_UP = 12, /* whose token or proof it is has as many held as one owner may have */
+    FOW_MEMORY_FULL = 13   /* there is no room for one more token, or proof, that counts once */
 };
 
 /* The challenge that is sent in `WWW-Authenticate`. Any other number is FOW_NO_CHALLENGE. */
@@ -760,12 +793,20 @@ typedef struct fow_reply {
  * at least one challenge (RFC 9110, section 15.5.2): where no scheme is taken, 500 comes in its place. */
 void fow_reply_to(uint32_t schemes, uint32_t shown, uint32_t outcome, fow_reply *reply);
 
-/* The outcome of a request by what fow_possession_judge, fow_possession_fresh or fow_possession_take answered of its proof; `fault` is that of
- * fow_possession_judge, else 0. A request whose proof is no cause to refuse it is FOW_ADMITTED so far: ask each of the three calls that you make.
+/* The outcome of a request by what fow_possession_judge or fow_possession_fresh answered of its proof; `fault` is that of fow_possession_judge, else 0. A request whose
+ * proof is no cause to refuse it is FOW_ADMITTED so far: ask each of the two calls that you make.
  *
  * Proved: it is FOW_ADMITTED exactly where the status is FOW_OK. Of FOW_NOT_EXPECTED it is FOW_NONCE_WANTED. Of FOW_REFUSED it is FOW_NONCE_WANTED where the
- * fault is FOW_PROOF_OTHER_NONCE, FOW_NOT_ACCEPTED where it is FOW_PROOF_OTHER_KEY, else FOW_PROOF_REFUSED. Of any other status it is FOW_UNANSWERED. */
+ * fault is FOW_PROOF_OTHER_NONCE, FOW_NOT_ACCEPTED where it is FOW_PROOF_OTHER_KEY, FOW_PATH_FORM where it is FOW_PROOF_PATH_FORM, else FOW_PROOF_REFUSED. Of any other
+ * status it is FOW_UNANSWERED. */
 uint32_t fow_proof_outcome(uint32_t status, uint32_t fault);
+
+/* The outcome of a request by what fow_once_take answered of its token, or fow_possession_take of its proof, where `of_proof` isn't 0: 401 to what isn't new, 429 to whose
+ * share is used up, 503 where the memory is full.
+ *
+ * Proved: it is FOW_ADMITTED exactly where the status is FOW_OK. Of FOW_REFUSED it is FOW_MEMORY_FULL where `taken` is FOW_TAKEN_FULL, FOW_SHARE_USED_UP where it is
+ * FOW_TAKEN_OWN_FULL, else FOW_NOT_ACCEPTED, of a proof FOW_PROOF_REFUSED. Of any other status it is FOW_UNANSWERED. */
+uint32_t fow_taken_outcome(uint32_t of_proof, uint32_t status, uint32_t taken);
 
 /* Whether a realm, a scope or the names of algorithms can stand in a challenge as they are. A service asks when it is set up. Proved: true exactly where
  * each octet is a printable one of ASCII, and neither a quotation mark nor a backslash (RFC 9110, section 5.6.4). */

@@ -181,6 +181,14 @@ const char *fow_fault_name(uint32_t fault)
         return "OtherAccessToken";
     case FOW_PROOF_OTHER_KEY:
         return "OtherKey";
+    case FOW_PROOF_PATH_FORM:
+        return "PathForm";
+    case FOW_BINDING_UNKNOWN:
+        return "Unknown";
+    case FOW_BINDING_OTHER_KEY:
+        return "OtherKey";
+    case FOW_BINDING_OTHER_CERTIFICATE:
+        return "OtherCertificate";
     default:
         return "";
     }

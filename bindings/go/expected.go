@@ -48,12 +48,13 @@ func (e *NotExpectedError) FaultName() string { return e.Fault }
 type Asked func(*call)
 
 type call struct {
-	now      time.Time
-	rules    []*Access
-	expected []expectation
-	bindings []binding
-	proof    *shown // the proof that came with the token; nil where none is asked for
-	err      error  // why this is no call
+	now          time.Time
+	rules        []*Access
+	expected     []expectation
+	unbound      bool
+	certificates []string
+	proof        *shown // the proof that came with the token; nil where none is asked for
+	err          error  // why this is no call
 }
 
 // expectation holds what is expected of a claim against the token that a seat has accepted just now, and answers the status and what isn't met.

@@ -64,7 +64,7 @@ func TestProofWithNonces(t *testing.T) {
 			continue
 		}
 		for _, by := range []*fowharimu.Nonces{noncesOf(t, 32), noncesOf(t, 33)} {
-			once, err := fowharimu.OpenOnce(1)
+			once, err := fowharimu.OpenOnce(1, fowharimu.Opened(time.Unix(0, 0)))
 			if err != nil {
 				t.Fatal(err)
 			}
@@ -88,7 +88,7 @@ func TestProofWithNonces(t *testing.T) {
 // TestAlgs has the names that a challenge of a guard tells.
 func TestAlgs(t *testing.T) {
 	_, first, _ := accessOf(t)
-	once, err := fowharimu.OpenOnce(1)
+	once, err := fowharimu.OpenOnce(1, fowharimu.Opened(time.Unix(0, 0)))
 	if err != nil {
 		t.Fatal(err)
 	}

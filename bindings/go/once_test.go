@@ -17,7 +17,7 @@ type claims = map[string]any
 // memoryFor is a memory for so many tokens.
 func memoryFor(t *testing.T, tokens uint) *fowharimu.Once {
 	t.Helper()
-	once, err := fowharimu.OpenOnce(tokens)
+	once, err := fowharimu.OpenOnce(tokens, fowharimu.Opened(time.Unix(0, 0)), fowharimu.Share(tokens))
 	if err != nil {
 		t.Fatal(err)
 	}

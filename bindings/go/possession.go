@@ -28,9 +28,11 @@ static void possession_free(fow_possession *it)
 	free(it);
 }
 
-static uint32_t certificate_holds(fow_validator *validator, _GoString_ der)
+// With no proof, where it is NULL.
+static uint32_t shown(fow_validator *validator, fow_possession *possession, _GoString_ der, uint32_t *ways, uint32_t *fault)
 {
-	return fow_certificate_holds(validator, octets_of(der), _GoStringLen(der));
+	fow_possession none = FOW_POSSESSION_INIT;
+	return fow_shown(validator, possession ? possession : &none, octets_of(der), _GoStringLen(der), ways, fault);
 }
 */
 import "C"
@@ -46,8 +48,8 @@ import (
 var ErrProof = errors.New("fowharimu: no proof of one request: a nonce isn't empty, and a request has one proof")
 
 // NotHeldError is the Refusal of a token that is accepted, and whose sender hasn't shown that the key is theirs that it is bound to. Fault is why the proof is none
-// for this request, such as OtherUri (docs/POSSESSION.md of the repository); OtherCertificate, where the token isn't bound to this certificate; Bound,
-// where it is bound, and came as a bearer's.
+// for this request, such as OtherUri (docs/POSSESSION.md of the repository); OtherCertificate, where the token isn't bound to this certificate, or is bound to one that
+// wasn't shown; OtherKey, where it is bound to a key as well; Unknown, where it is bound in a way that isn't known; Bound, where it is bound, and came as a bearer's.
 type NotHeldError struct {
 	Fault string
 	// Outcome is what a service answers a request with this token.
@@ -137,9 +139,6 @@ type shown struct {
 	by                        *place[*possession] // what it was judged with, until the call ends
 }
 
-// binding says why the token that a seat has accepted just now isn't bound as the call asks, and gives nil where it is.
-type binding func(s *seat) error
-
 // ByProof asks that the sender of the token holds the key that it is bound to, by a proof: value is that of the request's only header DPoP (a request
 // that has none, or several, is refused before), method the request's, by case, and uri what the client sees, with scheme and host, which behind a
 // proxy come from the configuration. The proof is judged behind the verdict, the access rule and what is expected, and taken last: the error is a
@@ -162,34 +161,26 @@ func ByProofWithNonce(proofs *Proofs, value, method, uri, nonce string) Asked {
 // it. Where it isn't, the error is a *NotHeldError with the fault OtherCertificate.
 func ByCertificate(der []byte) Asked {
 	certificate := string(der)
-	return func(c *call) {
-		c.bindings = append(c.bindings, func(s *seat) error {
-			switch C.certificate_holds(&s.held.at.validator, certificate) {
-			case C.FOW_OK:
-				return nil
-			case C.FOW_NOT_EXPECTED:
-				return &NotHeldError{"OtherCertificate", NotAccepted}
-			default:
-				return ErrOutOfMemory
-			}
-		})
-	}
+	return func(c *call) { c.certificates = append(c.certificates, certificate) }
 }
 
 // Unbound asks that the token is bound to nothing, as a service does that takes tokens of bearers: else whoever stole it could use it (RFC 9449, section 7.2). Where
 // it is bound, the error is a *NotHeldError with the fault Bound. Without it, and without a proof or a certificate, nothing is asked of the sender.
 func Unbound() Asked {
-	return func(c *call) {
-		c.bindings = append(c.bindings, func(s *seat) error {
-			var how C.uint32_t
-			if C.fow_bound(&s.held.at.validator, &how) != statusOK {
-				return ErrOutOfMemory
-			}
-			if how != C.FOW_BOUND_NOT {
-				return &NotHeldError{"Bound", NotAccepted}
-			}
-			return nil
-		})
+	return func(c *call) { c.unbound = true }
+}
+
+// shown gives how the token that a seat has accepted just now is bound, where each way was shown by the proof that is kept and this certificate. The error is a
+// *NotHeldError or ErrOutOfMemory.
+func (s *seat) shown(by *C.fow_possession, certificate string) (C.uint32_t, error) {
+	var ways, fault C.uint32_t
+	switch C.shown(&s.held.at.validator, by, certificate, &ways, &fault) {
+	case C.FOW_OK:
+		return ways, nil
+	case C.FOW_REFUSED:
+		return 0, &NotHeldError{faultName(int(fault)), NotAccepted}
+	default:
+		return 0, ErrOutOfMemory
 	}
 }
 
@@ -203,15 +194,36 @@ func (c *call) show(it *shown) {
 
 // checkSender holds against the token that a seat has accepted just now what is asked of its sender. The error is a *NotHeldError, ErrClosed or ErrOutOfMemory.
 func (c *call) checkSender(s *seat, token string) error {
-	for _, hold := range c.bindings {
-		if err := hold(s); err != nil {
+	if c.unbound {
+		_, err := s.shown(nil, "")
+		if held := (*NotHeldError)(nil); errors.As(err, &held) {
+			return &NotHeldError{"Bound", NotAccepted}
+		}
+		if err != nil {
 			return err
 		}
 	}
-	if c.proof == nil {
-		return nil
+	var by *C.fow_possession
+	if c.proof != nil {
+		if err := c.proof.judge(s, token, c.now); err != nil {
+			return err
+		}
+		by = c.proof.by.held.at
+		if len(c.certificates) == 0 {
+			_, err := s.shown(by, "")
+			return err
+		}
 	}
-	return c.proof.judge(s, token, c.now)
+	for _, certificate := range c.certificates {
+		ways, err := s.shown(by, certificate)
+		if err != nil {
+			return err
+		}
+		if ways&C.FOW_BOUND_CERTIFICATE == 0 {
+			return &NotHeldError{"OtherCertificate", NotAccepted}
+		}
+	}
+	return nil
 }
 
 // take takes the proof that was judged, where one is asked for. The error is a *NotTakenError, ErrOutOfMemory or ErrClosed.

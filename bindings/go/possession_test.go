@@ -269,12 +269,17 @@ func TestACertificateIsTheOneThatTheTokenIsBoundTo(t *testing.T) {
 	if _, err := validator.ValidateWith(bound, fowharimu.ByCertificate(der)); err != nil {
 		t.Error(err)
 	}
+	both := issuedBy(t, validator, claims{"cnf": claims{"jkt": "a", "x5t#S256": base64.RawURLEncoding.EncodeToString(digest[:])}})
 	for _, it := range []struct {
 		token string
 		der   []byte
-	}{{bound, []byte("a certificate.")}, {bound, nil}, {issuedBy(t, validator, claims{"sub": "user"}), der}, {good.token(), der}} {
+		fault string
+	}{
+		{bound, []byte("a certificate."), "OtherCertificate"}, {bound, nil, "OtherCertificate"}, {issuedBy(t, validator, claims{"sub": "user"}), der, "OtherCertificate"},
+		{good.token(), der, "OtherKey"}, {both, der, "OtherKey"}, {issuedBy(t, validator, claims{"cnf": claims{}}), der, "Unknown"},
+	} {
 		_, err := validator.ValidateWith(it.token, good.at(), fowharimu.ByCertificate(it.der))
-		notHeld(t, err, "OtherCertificate")
+		notHeld(t, err, it.fault)
 	}
 }
 

@@ -74,6 +74,9 @@ const (
 	KeysTooOld   Outcome = C.FOW_KEYS_TOO_OLD  // the keys are too old
 	ProofRefused Outcome = C.FOW_PROOF_REFUSED // there is no proof, or several, or it isn't one for this request, or it came before
 	NonceWanted  Outcome = C.FOW_NONCE_WANTED  // the proof hasn't a nonce that is asked for
+	PathForm     Outcome = C.FOW_PATH_FORM     // the path of the request can be read in more ways than one
+	ShareUsedUp  Outcome = C.FOW_SHARE_USED_UP // whose token or proof it is has as many held as one owner may have
+	MemoryFull   Outcome = C.FOW_MEMORY_FULL   // there is no room for one more token, or proof, that counts once
 )
 
 // TokenIn gives the token in the value of the one header Authorization, by a scheme that is taken (RFC 6750, section 2.1; RFC 9449, section 7.1), and which one

@@ -1,4 +1,4 @@
-"""Who sends a token holds its key: jwt_dpop and the directives beside it, jwt_certificate, jwt_refuse_bound. What a guard answers too is asked by tests/requests."""
+"""Who sends a token holds its key: jwt_dpop and the directives beside it, jwt_certificate. What a guard answers too is asked by tests/requests."""
 import hashlib
 import json
 import pathlib
@@ -27,7 +27,7 @@ DOCUMENTS = {
     "good.secret": "x" * 32,
 }
 GOOD = "jwt_policy good.policy; jwt_keys good.keys;"
-PROOFS = f"{GOOD} jwt_dpop_policy proofs.policy; jwt_dpop_origin {ORIGIN}; jwt_dpop_once zone=proofs:1m;"
+PROOFS = f"{GOOD} jwt_dpop_policy proofs.policy; jwt_dpop_origin {ORIGIN}; jwt_dpop_once zone=proofs:1m since=ever;"
 REFUSED = {
     "proofs without a policy": (f"{GOOD} jwt_dpop_origin {ORIGIN}; jwt_dpop_once off; jwt_dpop on; jwt on;", 'no "jwt_dpop_policy" is defined for "jwt_dpop"'),
     "proofs without an origin": (f"{GOOD} jwt_dpop_policy proofs.policy; jwt_dpop_once off; jwt_dpop on; jwt on;", 'no "jwt_dpop_origin" is defined for "jwt_dpop"'),
@@ -50,20 +50,19 @@ REFUSED = {
     "nonces for no time": (f"{GOOD} jwt_dpop_nonce good.secret 0;", '"jwt_dpop_nonce" directive takes a time of a second to a day'),
     "nonces for too long": (f"{GOOD} jwt_dpop_nonce good.secret 2d;", '"jwt_dpop_nonce" directive takes a time of a second to a day'),
     "a certificate of a variable that is unknown": (f"{GOOD} jwt_certificate $nothing;", 'unknown "nothing" variable'),
-    "another word than on and off for bound tokens": (f"{GOOD} jwt_refuse_bound yes;", 'invalid value "yes" in "jwt_refuse_bound" directive'),
 }
 TAKEN = {
     "proofs": (f"{PROOFS} jwt_dpop on; jwt on; location / {{ jwt_dpop only; jwt_dpop_nonce good.secret; location /a {{ jwt_dpop off; jwt_dpop_nonce off; }} }}", ""),
     "nonces with a time": (f"{PROOFS} jwt_dpop only; jwt on; jwt_dpop_nonce good.secret 5m;", ""),
     "proofs that may come again": (f"{GOOD} jwt_dpop_policy proofs.policy; jwt_dpop_origin http://[::1]:8080; jwt_dpop_once off; jwt_dpop on; jwt on;", ""),
-    "a certificate": (f"{GOOD} jwt on; jwt_certificate $ssl_client_raw_cert; jwt_refuse_bound on; location / {{ jwt_certificate off; }}", ""),
+    "a certificate": (f"{GOOD} jwt on; jwt_certificate $ssl_client_raw_cert; location / {{ jwt_certificate off; }}", ""),
 }
 LOCATIONS = {
     "/held": "jwt_dpop on; location /held/inner { try_files /page =404; }",
     "/only": "jwt_dpop only;",
     "/early": "jwt_dpop on; set $early $jwt_claim_sub;",
     "/redirected": "jwt_dpop on; error_page 404 = /held/inner; return 404;",
-    "/both": "jwt_dpop on; jwt_once zone=taken:1m;",
+    "/both": "jwt_dpop on; jwt_once zone=taken:1m since=ever;",
     "/stripped": "jwt_dpop on; jwt_strip on; proxy_pass http://behind;",
     "/shown": "jwt_dpop on; proxy_pass http://behind;",
     "/issued": "jwt_dpop on; jwt_issue access.keys https://gateway.example shop; proxy_pass http://behind;",
@@ -112,10 +111,10 @@ def test_proofs(check: Callable[..., None]) -> None:
         write_documents(nginx, secret)
         held = Tokens(secret)
         locations = " ".join(f"location {path} {{ {body} {'' if 'return' in body or 'proxy_pass' in body else 'try_files /page =404;'} }}" for path, body in LOCATIONS.items())
-        proofs = f"jwt_dpop_policy proofs.policy; jwt_dpop_origin {ORIGIN}; jwt_dpop_once zone=proofs:1m;"
+        proofs = f"jwt_dpop_policy proofs.policy; jwt_dpop_origin {ORIGIN}; jwt_dpop_once zone=proofs:1m since=ever;"
         including = "location = /including.html { jwt_dpop on; ssi on; }"
         # (asks in a second zone, and then is redirected within nginx to where the proof is taken first)
-        including += " location /two-zones { jwt_dpop on; auth_request /in-apart; try_files /none /held/inner; } location = /in-apart { internal; jwt_dpop on; jwt_dpop_once zone=apart:64k; jwt_answer; }"
+        including += " location /two-zones { jwt_dpop on; auth_request /in-apart; try_files /none /held/inner; } location = /in-apart { internal; jwt_dpop on; jwt_dpop_once zone=apart:64k since=ever; jwt_answer; }"
         nginx.configure(BEHIND + f"server {{ listen 127.0.0.1:{{port}}; jwt_policy access.policy; jwt_keys access.keys; {SHOWN} jwt on; {proofs} {locations} {including} }}")
 
         def said(path: str, proof: str | None, token: str = held.bound, scheme: str = "DPoP", *words: str) -> tuple[int, str, str]:
@@ -134,10 +133,11 @@ def test_proofs(check: Callable[..., None]) -> None:
             check("a bound token as a bearer's", said("/held", None, scheme="Bearer") == (401, "Bound", "refused"))
             check("a token that isn't bound", said("/held", None, held.free(), "Bearer") == GOOD_ANSWER)
             check("a bearer's where proofs alone are taken", said("/only", None, held.free(), "Bearer")[::2] == (401, "absent"))
-            encoded = "/held/b%2Fa/%7Euser?page=2"
+            encoded = "/held/b%20a/~user?page=2"
             check("a path as the client wrote it", said(encoded, held.proof(encoded)) == GOOD_ANSWER)
-            check("a path that nginx joins", said("/held/./inner", held.proof("/held/inner"), held.bound, "DPoP", "--path-as-is") == GOOD_ANSWER)
-            check("two slashes, which are no one path", said("/held//a", held.proof("/held/a"), held.bound, "DPoP", "--path-as-is") == (401, "OtherUri", "refused"))
+            for path, joined in (("/held/./inner", "/held/inner"), ("/held//a", "/held/a"), ("/held/b%2Fa", "/held/b%2Fa"), ("/held/%7Euser", "/held/~user"), ("/held/..;/held/a", "/held/a")):
+                check(f"a path that can be read in more ways than one: {path}", said(path, held.proof(joined), held.bound, "DPoP", "--path-as-is") == (400, "PathForm", "refused"))
+            check("and no challenge", "www-authenticate" not in nginx.get("/held//a", "--path-as-is", "-H", f"Authorization: DPoP {held.bound}", "-H", f"DPoP: {held.proof('/held/a')}").headers)
             check("another method", said("/held", held.proof("/held"), held.bound, "DPoP", "-X", "POST")[1] == "OtherMethod")
             proof = held.proof("/including.html")
             page = nginx.get("/including.html", "-H", f"Authorization: DPoP {held.bound}", "-H", f"DPoP: {proof}")
@@ -188,7 +188,7 @@ def test_request_lines(check: Callable[..., None]) -> None:
         secret, nginx = tokens.Secret(), Nginx(pathlib.Path(name))
         write_documents(nginx, secret)
         held = Tokens(secret)
-        proofs = f"jwt_dpop_policy proofs.policy; jwt_dpop_origin {ORIGIN}; jwt_dpop_once zone=proofs:1m;"
+        proofs = f"jwt_dpop_policy proofs.policy; jwt_dpop_origin {ORIGIN}; jwt_dpop_once zone=proofs:1m since=ever;"
         nginx.write("nonce.secret", proofs_of_now.SECRET.decode())
         asking = "location /asking { auth_request /asked; auth_request_set $nonce $sent_http_dpop_nonce; add_header DPoP-Nonce $nonce always; try_files /page =404; } location /asked { internal; jwt on; jwt_dpop on; jwt_dpop_nonce nonce.secret 1h; jwt_answer; }"
         places = "location /lost { error_page 404 = /found; return 404; } location /found { jwt on; jwt_dpop on; try_files /page =404; } location / { jwt on; jwt_dpop on; try_files /page =404; }"
@@ -229,9 +229,9 @@ def test_certificates(check: Callable[..., None]) -> None:
         held, port = Tokens(secret), free_port()
         ders = {it: made_certificate(nginx.room, it) for it in ("server", "client", "stranger")}
         mark = tokens.MAKE.base64url(hashlib.sha256(ders["client"]).digest())
-        proofs = f"jwt_dpop_policy proofs.policy; jwt_dpop_origin {ORIGIN}; jwt_dpop_once zone=proofs:1m;"
+        proofs = f"jwt_dpop_policy proofs.policy; jwt_dpop_origin {ORIGIN}; jwt_dpop_once zone=proofs:1m since=ever;"
         lines = "ssl_certificate server.pem; ssl_certificate_key server.key; ssl_verify_client optional_no_ca; jwt_policy access.policy; jwt_keys access.keys; jwt on;"
-        places = {"/": "jwt_certificate $ssl_client_raw_cert;", "/escaped": "jwt_certificate $ssl_client_escaped_cert;", "/header": "jwt_certificate $http_pem;", "/bearers": "jwt_refuse_bound on;", "/proofs": f"{proofs} jwt_dpop on; jwt_certificate $ssl_client_raw_cert;"}
+        places = {"/": "jwt_certificate $ssl_client_raw_cert;", "/escaped": "jwt_certificate $ssl_client_escaped_cert;", "/header": "jwt_certificate $http_pem;", "/bearers": "", "/proofs": f"{proofs} jwt_dpop on; jwt_certificate $ssl_client_raw_cert;"}
         locations = " ".join(f"location = {path} {{ {body} jwt_answer 200; }}" for path, body in places.items())
         nginx.configure(f"server {{ listen 127.0.0.1:{{port}}; listen 127.0.0.1:{port} ssl; {SHOWN} {lines} {locations} }}")
         bound, key = {"x5t#S256": mark}, {"jkt": proofs_of_now.thumbprint("ES256")}
@@ -249,9 +249,9 @@ def test_certificates(check: Callable[..., None]) -> None:
                 ("another's certificate", held.free(cnf=bound), "stranger", "/", (401, "OtherCertificate")),
                 ("no certificate", held.free(cnf=bound), None, "/", (401, "OtherCertificate")),
                 ("a token that isn't bound", held.free(), "client", "/", (401, "OtherCertificate")),
-                ("a token that is bound to a key", held.bound, "client", "/", (401, "Bound")),
-                ("a token that is bound to both, without a proof", held.free(cnf={**bound, **key}), "client", "/", (401, "Bound")),
-                ("a token that is bound in another way", held.free(cnf={"kid": mark}), "client", "/", (401, "Bound")),
+                ("a token that is bound to a key", held.bound, "client", "/", (401, "OtherKey")),
+                ("a token that is bound to both, without a proof", held.free(cnf={**bound, **key}), "client", "/", (401, "OtherKey")),
+                ("a token that is bound in another way", held.free(cnf={"kid": mark}), "client", "/", (401, "Unknown")),
                 ("a token that is bound to no octets, and no certificate", held.free(cnf={"x5t#S256": tokens.MAKE.base64url(hashlib.sha256(b"").digest())}), None, "/", (401, "OtherCertificate")),
                 ("a certificate that is no PEM", held.free(cnf=bound), "client", "/escaped", (401, "OtherCertificate")),
                 ("a bound token where none may be", held.free(cnf=bound), "client", "/bearers", (401, "Bound")),

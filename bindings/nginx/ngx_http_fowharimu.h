@@ -23,8 +23,8 @@
 /* how long a token of "jwt_issue" lives, in seconds, where nothing is said */
 #define NGX_HTTP_FOWHARIMU_LIFETIME    60
 
-/* the octets of a mark by which a token that counts once is held */
-#define NGX_HTTP_FOWHARIMU_MARK        32
+/* why a token, or a proof, that counts once can't be taken, beside fow_taken */
+#define NGX_HTTP_FOWHARIMU_NO_MEMORY   0
 
 /* how long a nonce for proofs is offered, in seconds, where nothing is said */
 #define NGX_HTTP_FOWHARIMU_PERIOD      60
@@ -122,19 +122,12 @@ typedef struct {
 } ngx_http_fowharimu_rule_t;
 
 
-/* how a token that counts once is held */
-typedef struct {
-    uint64_t                         until;
-    u_char                           mark[NGX_HTTP_FOWHARIMU_MARK];
-} ngx_http_fowharimu_entry_t;
-
-
 /* the tokens or the proofs that a main request has taken, each in its zone */
 typedef struct ngx_http_fowharimu_held_s  ngx_http_fowharimu_held_t;
 
 struct ngx_http_fowharimu_held_s {
     ngx_shm_zone_t                  *zone;
-    u_char                           mark[NGX_HTTP_FOWHARIMU_MARK];
+    u_char                           mark[FOW_MARK_LEN];
     ngx_http_fowharimu_held_t       *next;
 };
 
@@ -219,7 +212,6 @@ typedef struct {
     ngx_shm_zone_t                  *proof_once;
     ngx_http_fowharimu_nonce_t      *nonce;
     ngx_http_complex_value_t        *certificate;
-    ngx_flag_t                       refuse_bound;
     ngx_int_t                        tokens;    /* that are remembered */
     size_t                           octets;    /* of the longest of them */
 } ngx_http_fowharimu_loc_conf_t;
@@ -245,8 +237,8 @@ typedef struct {
     uint64_t                         tries;     /* that were paid */
     uint64_t                         work;
     uint64_t                         remembered;
-    ngx_http_fowharimu_entry_t       entry;     /* with "jwt_once" */
-    ngx_http_fowharimu_entry_t       proof_entry;
+    fow_entry                        entry;     /* with "jwt_once" */
+    fow_entry                        proof_entry;
     u_char                           digits[3][NGX_INT64_LEN];
     ngx_str_t                       *claims;    /* in the order of the names */
     unsigned                         passed:1;  /* the access phase, by it */
@@ -300,12 +292,12 @@ ngx_int_t ngx_http_fowharimu_is_expected(ngx_http_request_t *r,
 char *ngx_http_fowharimu_set_once(ngx_conf_t *cf, ngx_command_t *cmd,
     void *conf);
 char *ngx_http_fowharimu_set_zone(ngx_conf_t *cf, ngx_shm_zone_t **zone);
-const char *ngx_http_fowharimu_entry(ngx_http_fowharimu_validator_t *validator,
-    ngx_http_fowharimu_entry_t *entry);
-const char *ngx_http_fowharimu_take(ngx_http_request_t *r,
+uint32_t ngx_http_fowharimu_entry(ngx_http_fowharimu_judged_t *judged);
+uint32_t ngx_http_fowharimu_take(ngx_http_request_t *r,
     ngx_http_fowharimu_judged_t *judged);
-const char *ngx_http_fowharimu_take_proof(ngx_http_request_t *r,
+uint32_t ngx_http_fowharimu_take_proof(ngx_http_request_t *r,
     ngx_http_fowharimu_judged_t *judged);
+const char *ngx_http_fowharimu_taken_name(uint32_t taken);
 char *ngx_http_fowharimu_set_dpop(ngx_conf_t *cf, ngx_command_t *cmd,
     void *conf);
 char *ngx_http_fowharimu_set_proofs(ngx_conf_t *cf, ngx_command_t *cmd,

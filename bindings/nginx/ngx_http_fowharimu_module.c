@@ -114,7 +114,7 @@ static ngx_command_t  ngx_http_fowharimu_commands[] = {
       NULL },
 
     { ngx_string("jwt_once"),
-      NGX_HTTP_FOWHARIMU_CONF|NGX_CONF_TAKE1,
+      NGX_HTTP_FOWHARIMU_CONF|NGX_CONF_TAKE123,
       ngx_http_fowharimu_set_once,
       NGX_HTTP_LOC_CONF_OFFSET,
       0,
@@ -142,7 +142,7 @@ static ngx_command_t  ngx_http_fowharimu_commands[] = {
       NULL },
 
     { ngx_string("jwt_dpop_once"),
-      NGX_HTTP_FOWHARIMU_CONF|NGX_CONF_TAKE1,
+      NGX_HTTP_FOWHARIMU_CONF|NGX_CONF_TAKE123,
       ngx_http_fowharimu_set_proof_once,
       NGX_HTTP_LOC_CONF_OFFSET,
       0,
@@ -160,13 +160,6 @@ static ngx_command_t  ngx_http_fowharimu_commands[] = {
       ngx_http_fowharimu_set_certificate,
       NGX_HTTP_LOC_CONF_OFFSET,
       0,
-      NULL },
-
-    { ngx_string("jwt_refuse_bound"),
-      NGX_HTTP_FOWHARIMU_CONF|NGX_CONF_FLAG,
-      ngx_conf_set_flag_slot,
-      NGX_HTTP_LOC_CONF_OFFSET,
-      offsetof(ngx_http_fowharimu_loc_conf_t, refuse_bound),
       NULL },
 
     { ngx_string("jwt_remember"),
@@ -444,7 +437,6 @@ ngx_http_fowharimu_say_nothing(ngx_http_fowharimu_loc_conf_t *lcf)
     lcf->proof_once = NGX_CONF_UNSET_PTR;
     lcf->nonce = NGX_CONF_UNSET_PTR;
     lcf->certificate = NGX_CONF_UNSET_PTR;
-    lcf->refuse_bound = NGX_CONF_UNSET;
     lcf->tokens = NGX_CONF_UNSET;
     lcf->octets = NGX_CONF_UNSET_SIZE;
 }

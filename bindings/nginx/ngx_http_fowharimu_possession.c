@@ -31,12 +31,7 @@ static void ngx_http_fowharimu_method(ngx_http_request_t *r,
     ngx_str_t *method);
 static ngx_int_t ngx_http_fowharimu_uri(ngx_http_request_t *r,
     ngx_str_t *origin, ngx_str_t *uri);
-static uint32_t ngx_http_fowharimu_hold_proof(
-    ngx_http_fowharimu_proofs_t *proofs, ngx_http_fowharimu_entry_t *entry);
-static uint32_t ngx_http_fowharimu_is_for_bearers(
-    ngx_http_fowharimu_loc_conf_t *lcf, ngx_http_fowharimu_judged_t *judged,
-    const char **fault);
-static uint32_t ngx_http_fowharimu_has_certificate(ngx_http_request_t *r,
+static uint32_t ngx_http_fowharimu_is_shown(ngx_http_request_t *r,
     ngx_http_fowharimu_loc_conf_t *lcf, ngx_http_fowharimu_judged_t *judged,
     const char **fault);
 static ngx_int_t ngx_http_fowharimu_der(ngx_pool_t *pool, ngx_str_t *pem,
@@ -211,7 +206,10 @@ ngx_http_fowharimu_is_origin(ngx_str_t *origin)
 }
 
 
-/* "jwt_dpop_once zone=name[:size]", or "jwt_dpop_once off" */
+/*
+ * "jwt_dpop_once zone=name[:size] [share=number] [since=start|ever]", or
+ * "jwt_dpop_once off"
+ */
 
 char *
 ngx_http_fowharimu_set_proof_once(ngx_conf_t *cf, ngx_command_t *cmd,
@@ -336,7 +334,6 @@ ngx_http_fowharimu_merge_possession(ngx_conf_t *cf,
     ngx_conf_merge_str_value(conf->origin, prev->origin, "");
     ngx_conf_merge_ptr_value(conf->nonce, prev->nonce, NULL);
     ngx_conf_merge_ptr_value(conf->certificate, prev->certificate, NULL);
-    ngx_conf_merge_value(conf->refuse_bound, prev->refuse_bound, 0);
 
     if (conf->proof_once == NGX_CONF_UNSET_PTR) {
         conf->proof_once = prev->proof_once;
@@ -380,8 +377,7 @@ ngx_http_fowharimu_is_same_possession(ngx_http_fowharimu_loc_conf_t *one,
            && one->origin.data == other->origin.data
            && one->proof_once == other->proof_once
            && one->nonce == other->nonce
-           && one->certificate == other->certificate
-           && one->refuse_bound == other->refuse_bound;
+           && one->certificate == other->certificate;
 }
 
 
@@ -445,12 +441,10 @@ ngx_http_fowharimu_held(ngx_http_request_t *r,
     uint32_t  outcome;
 
     outcome = judged->scheme == FOW_DPOP
-              ? ngx_http_fowharimu_proves(r, lcf, judged, fault)
-              : ngx_http_fowharimu_is_for_bearers(lcf, judged, fault);
+              ? ngx_http_fowharimu_proves(r, lcf, judged, fault) : FOW_ADMITTED;
 
-    return outcome == FOW_ADMITTED && lcf->certificate
-           ? ngx_http_fowharimu_has_certificate(r, lcf, judged, fault)
-           : outcome;
+    return outcome == FOW_ADMITTED
+           ? ngx_http_fowharimu_is_shown(r, lcf, judged, fault) : outcome;
 }
 
 
@@ -479,8 +473,8 @@ ngx_http_fowharimu_proves(ngx_http_request_t *r,
 
     if (status == FOW_OK && lcf->proof_once) {
         *fault = "OutOfMemory";
-        status = ngx_http_fowharimu_hold_proof(lcf->proofs,
-                                               &judged->proof_entry);
+        status = fow_possession_entry(&lcf->proofs->handle,
+                                      &judged->proof_entry);
     }
 
     return fow_proof_outcome(status, number);
@@ -576,80 +570,56 @@ ngx_http_fowharimu_uri(ngx_http_request_t *r, ngx_str_t *origin, ngx_str_t *uri)
 }
 
 
-static uint32_t
-ngx_http_fowharimu_hold_proof(ngx_http_fowharimu_proofs_t *proofs,
-    ngx_http_fowharimu_entry_t *entry)
-{
-    uint32_t  lacks;
-
-    return fow_possession_entry(&proofs->handle, entry->mark,
-                                NGX_HTTP_FOWHARIMU_MARK, &entry->until, &lacks);
-}
-
-
-/* a token that is bound is nobody's who just has it (section 7.2) */
+/*
+ * Each way in which a token is bound has to be shown: by the proof of this very
+ * request, or by the client's certificate.  One that is bound and comes as a
+ * bearer's is nobody's who just has it (section 7.2).
+ */
 
 static uint32_t
-ngx_http_fowharimu_is_for_bearers(ngx_http_fowharimu_loc_conf_t *lcf,
-    ngx_http_fowharimu_judged_t *judged, const char **fault)
-{
-    uint32_t  how;
-
-    if (!(lcf->schemes & FOW_DPOP) && !lcf->refuse_bound && !lcf->certificate) {
-        return FOW_ADMITTED;
-    }
-
-    if (fow_bound(&judged->validator->handle, &how) != FOW_OK) {
-        *fault = "OutOfMemory";
-        return FOW_UNANSWERED;
-    }
-
-    /* (whether it is bound to the client's certificate is asked behind) */
-
-    if (how == FOW_BOUND_NOT
-        || (lcf->certificate && how == (FOW_BOUND|FOW_BOUND_CERTIFICATE)))
-    {
-        return FOW_ADMITTED;
-    }
-
-    *fault = "Bound";
-
-    return FOW_NOT_ACCEPTED;
-}
-
-
-static uint32_t
-ngx_http_fowharimu_has_certificate(ngx_http_request_t *r,
+ngx_http_fowharimu_is_shown(ngx_http_request_t *r,
     ngx_http_fowharimu_loc_conf_t *lcf, ngx_http_fowharimu_judged_t *judged,
     const char **fault)
 {
-    uint32_t   status;
-    ngx_str_t  pem, der;
+    uint32_t         ways, number;
+    ngx_str_t        pem, der;
+    fow_possession   none = FOW_POSSESSION_INIT, *proof;
 
     *fault = "OutOfMemory";
+    ngx_str_set(&der, "");
 
-    if (ngx_http_complex_value(r, lcf->certificate, &pem) != NGX_OK
-        || ngx_http_fowharimu_der(r->pool, &pem, &der) != NGX_OK)
+    if (lcf->certificate
+        && (ngx_http_complex_value(r, lcf->certificate, &pem) != NGX_OK
+            || ngx_http_fowharimu_der(r->pool, &pem, &der) != NGX_OK))
     {
         return FOW_UNANSWERED;
     }
 
-    status = der.len ? fow_certificate_holds(&judged->validator->handle,
-                                             der.data, der.len)
-                     : FOW_NOT_EXPECTED;
+    proof = judged->scheme == FOW_DPOP ? &lcf->proofs->handle : &none;
 
-    switch (status) {
+    switch (fow_shown(&judged->validator->handle, proof, der.data, der.len,
+                      &ways, &number))
+    {
 
     case FOW_OK:
-        return FOW_ADMITTED;
+        break;
 
-    case FOW_NOT_EXPECTED:
-        *fault = "OtherCertificate";
+    case FOW_REFUSED:
+        *fault = proof == &none && lcf->certificate == NULL
+                 ? "Bound" : fow_fault_name(number);
+
         return FOW_NOT_ACCEPTED;
 
     default:
         return FOW_UNANSWERED;
     }
+
+    if (lcf->certificate && !(ways & FOW_BOUND_CERTIFICATE)) {
+        *fault = "OtherCertificate";
+        return FOW_NOT_ACCEPTED;
+    }
+
+    return FOW_ADMITTED;
 }
 
 

@@ -485,7 +485,7 @@ static ngx_int_t
 ngx_http_fowharimu_accepted(ngx_http_request_t *r,
     ngx_http_fowharimu_loc_conf_t *lcf, ngx_http_fowharimu_judged_t *judged)
 {
-    uint32_t                         outcome;
+    uint32_t                         outcome, taken;
     ngx_int_t                        rc;
     ngx_str_t                        room;
     const char                      *fault;
@@ -515,12 +515,11 @@ ngx_http_fowharimu_accepted(ngx_http_request_t *r,
                : ngx_http_fowharimu_refuse_for(r, judged, outcome, fault);
     }
 
-    fault = lcf->once
-            ? ngx_http_fowharimu_entry(judged->validator, &judged->entry)
-            : NULL;
+    taken = lcf->once ? ngx_http_fowharimu_entry(judged) : FOW_TAKEN_NEW;
 
-    if (fault) {
-        return ngx_http_fowharimu_refuse_token(r, judged, fault);
+    if (taken != FOW_TAKEN_NEW) {
+        return ngx_http_fowharimu_refuse_token(r, judged,
+                                         ngx_http_fowharimu_taken_name(taken));
     }
 
     fault = lcf->issue ? ngx_http_fowharimu_issue(r, lcf, judged) : NULL;
@@ -567,30 +566,34 @@ static ngx_int_t
 ngx_http_fowharimu_taken(ngx_http_request_t *r,
     ngx_http_fowharimu_judged_t *judged)
 {
-    uint32_t     outcome;
+    uint32_t     taken, of_proof;
     const char  *fault;
 
-    fault = NULL;
-    outcome = FOW_NOT_ACCEPTED;
+    taken = FOW_TAKEN_NEW;
+    of_proof = judged->scheme == FOW_DPOP && judged->conf->proof_once;
 
-    if (judged->scheme == FOW_DPOP && judged->conf->proof_once) {
-        fault = ngx_http_fowharimu_take_proof(r, judged);
-        outcome = fault ? FOW_PROOF_REFUSED : FOW_NOT_ACCEPTED;
+    if (of_proof) {
+        taken = ngx_http_fowharimu_take_proof(r, judged);
     }
 
-    if (fault == NULL && judged->conf->once) {
-        fault = ngx_http_fowharimu_take(r, judged);
+    if (taken == FOW_TAKEN_NEW && judged->conf->once) {
+        of_proof = 0;
+        taken = ngx_http_fowharimu_take(r, judged);
     }
 
-    if (fault == NULL) {
+    if (taken == FOW_TAKEN_NEW) {
         return NGX_OK;
     }
 
     ngx_http_fowharimu_forget(r, judged);
 
-    return ngx_strcmp(fault, "OutOfMemory") == 0
+    fault = ngx_http_fowharimu_taken_name(taken);
+
+    return taken == NGX_HTTP_FOWHARIMU_NO_MEMORY
            ? ngx_http_fowharimu_fail(r, judged, fault)
-           : ngx_http_fowharimu_refuse_for(r, judged, outcome, fault);
+           : ngx_http_fowharimu_refuse_for(r, judged,
+                            fow_taken_outcome(of_proof, FOW_REFUSED, taken),
+                            fault);
 }
 
 

@@ -28,14 +28,13 @@ export interface Guarding {
   hidesToken?: boolean;
   /** Takes tokens of the scheme DPoP too, or alone, with proofs; the path of a proof's URI is that of `originalUrl`, where there is one, or `url`. */
   dpop?: GuardingDPoP;
-  /** Whether a bearer's token that is bound is refused: else whoever stole it could use it (RFC 9449, section 7.2). With `dpop` it is so in any case. */
-  refusesBound?: boolean;
   /** Is told why a token isn't taken, before the answer; not of what is no token by its letters (RFC 6750, section 2.1), nor of a request without one. */
   onRefusal?: (error: TokenRefused | Denied, request: IncomingMessage) => void;
 }
 /**
  * Calls `next()` where the token behind the scheme Bearer is accepted now. Else the answer is 400, 401 or 403, with `WWW-Authenticate` (RFC 6750,
- * section 3), or 503 where keys by URL are too old. Where nothing is said of the token, for want of memory or since the validator is closed, it is `next(error)`. Throws TypeError for a
+ * section 3), 429 where the owner of what counts once has used up its share, or 503 where keys by URL are too old or there is no room for what counts once. A bearer's token that is
+ * bound is refused. Where nothing is said of the token, for want of memory or since the validator is closed, it is `next(error)`. Throws TypeError for a
  * realm that a quoted string can't have, for a name that `Guarding` hasn't, and for an `access`, a `dpop` or `nonces` that is none: nothing would be asked for.
  *
  * A validator of your own has to heed the second argument of `validate`: it holds the access rule, and who has to hold the token's key. One that leaves it out lets both through unasked.

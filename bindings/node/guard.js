@@ -5,7 +5,7 @@ const { Access, Denied, Nonces, Proof, Proofs, TokenRefused, UNBOUND, algsOf, ou
 const { ofKind, own } = require('./options.js');
 const { OUTCOME, SCHEME, isQuotable, replyTo, tokenIn } = require('./requests.js');
 
-const WORDS = ['access', 'dpop', 'hidesToken', 'onRefusal', 'realm', 'refusesBound'], DPOP = ['nonces', 'only', 'origin', 'proofs'];
+const WORDS = ['access', 'dpop', 'hidesToken', 'onRefusal', 'realm'], DPOP = ['nonces', 'only', 'origin', 'proofs'];
 const ORIGIN = /^https?:\/\/[A-Za-z0-9._~!$&'()*+,;=:[\]%-]+$/i;
 
 /** The values of all headers of a name: `headers` has the first alone, or joins them. */
@@ -62,17 +62,17 @@ function checkedWords(how) {
   const words = own(how, WORDS, 'a guard');
   if ('access' in words && !(words.access instanceof Access)) throw new TypeError('access has to be an Access');
   ofKind('string', words, 'realm');
-  ofKind('boolean', words, 'hidesToken', 'refusesBound');
+  ofKind('boolean', words, 'hidesToken');
   ofKind('function', words, 'onRefusal');
   return { __proto__: null, ...words, dpop: 'dpop' in words ? checkedProofs(words.dpop) : undefined };
 }
 
 /** The token of a request with the scheme by which it is shown, and what is asked of who sends it; where it can't be judged, the outcome. (What isn't there isn't looked for in a prototype.) */
-function askingOf(request, schemes, dpop, ofBearers) {
+function askingOf(request, schemes, dpop) {
   const values = valuesOf(request, 'authorization');
   if (values.length > 1) return { __proto__: null, scheme: SCHEME.none, outcome: OUTCOME.several };
   const shown = tokenIn(schemes, values[0] ?? '');
-  if (shown.token === undefined || shown.scheme !== SCHEME.dpop) return { __proto__: null, ...shown, ...ofBearers };
+  if (shown.token === undefined || shown.scheme !== SCHEME.dpop) return { __proto__: null, ...shown, holder: UNBOUND };
   const proofs = valuesOf(request, 'dpop');
   if (proofs.length !== 1) return { __proto__: null, scheme: shown.scheme, outcome: OUTCOME.proofRefused };
   const said = { dpop: Buffer.from(proofs[0], 'latin1'), method: request.method, uri: dpop.origin + pathOf(request) };
@@ -80,10 +80,10 @@ function askingOf(request, schemes, dpop, ofBearers) {
 }
 
 function guard(validator, how = {}) {
-  const { access, dpop, realm = 'jwt', hidesToken = false, refusesBound = false, onRefusal = () => {} } = checkedWords(how);
+  const { access, dpop, realm = 'jwt', hidesToken = false, onRefusal = () => {} } = checkedWords(how);
   if (!isQuotable(realm)) throw new TypeError('a realm has printable characters of ASCII, and neither quotation marks nor backslashes');
   const schemes = dpop?.schemes ?? SCHEME.bearer, algs = dpop?.algs ?? '';
-  const ofBearers = refusesBound || dpop !== undefined ? { holder: UNBOUND } : {}, rule = access === undefined ? {} : { access };
+  const rule = access === undefined ? {} : { access };
   /** Answers a request that isn't let through. */
   const refuse = (response, scheme, outcome, scopes = '') => {
     const { status, challenges, wantsNonce } = replyTo(schemes, scheme, outcome, { realm, scopes, algs });
@@ -96,7 +96,7 @@ function guard(validator, how = {}) {
     response.end();
   };
   return (request, response, next) => {
-    const { token, scheme, outcome, holder } = askingOf(request, schemes, dpop, ofBearers);
+    const { token, scheme, outcome, holder } = askingOf(request, schemes, dpop);
     if (token === undefined) return refuse(response, scheme, outcome);
     const admit = (claims) => {
       request.auth = claims;
@@ -110,8 +110,7 @@ function guard(validator, how = {}) {
     };
     let claims;
     try {
-      const asks = holder === undefined ? rule : { ...rule, holder };
-      claims = Object.keys(asks).length === 0 ? validator.validate(token) : validator.validate(token, asks);
+      claims = validator.validate(token, { ...rule, holder });
     } catch (error) {
       return turnAway(error);
     }

@@ -242,8 +242,13 @@ export class Access {
  * in once a memory, so once a worker: several workers, processes or machines need one store that they share. What is never closed is freed with the object.
  */
 export class Once {
-  /** A memory for so many tokens, from 1 to 4,294,967,295, each of which takes some 190 octets, 310 with a `sub`. Throws RangeError, AnotherLibrary, and an Error where memory is refused. */
-  constructor(tokens: number);
+  /**
+   * A memory for so many tokens, from 1 to 4,294,967,295, each of which takes some 190 octets, 310 with a `sub`. Of one owner, an issuer with a `sub`, it takes `share` at
+   * most; a sixteenth without one. What was issued before `opened` is refused, by `iat` and the leeway, and so is a token without `iat`: in seconds since 1970;
+   * the second after this one without one, so that a restart refuses some tokens and lets none in twice. With 0 it lets in each token once more. Throws RangeError,
+   * TypeError for a name that it hasn't, AnotherLibrary, and an Error where memory is refused.
+   */
+  constructor(tokens: number, how?: { share?: number; opened?: number | bigint });
   /** Frees what is held, and forgets what was taken. It may be called twice. Validators over it throw Closed then. */
   close(): void;
 }

@@ -9,15 +9,16 @@ const OK = 0, REFUSED = 1, OUT_OF_MEMORY = 3;
 /** FOW_NO_FAULT and FOW_DENIED_SCOPE_MISSING of fowharimu.h. */
 const NO_FAULT = 0, SCOPE_MISSING = 1001;
 /** FOW_NOT_EXPECTED, FOW_PROOF_OTHER_NONCE, FOW_TAKEN_NEW, and the names of the other answers of enum fow_taken. */
-const NOT_EXPECTED = 9, OTHER_NONCE = 1303, TAKEN_NEW = 1, NOT_TAKEN = { 2: 'Seen', 3: 'Late', 4: 'Full', 5: 'NoId', 6: 'NoEnd', 7: 'Ahead' };
+const NOT_EXPECTED = 9, OTHER_NONCE = 1303, TAKEN_NEW = 1, NOT_TAKEN = { 2: 'Seen', 3: 'Late', 4: 'Full', 5: 'NoId', 6: 'NoEnd', 7: 'Ahead', 8: 'OwnFull', 9: 'Before' };
 /** The names of enum fow_unmet, from FOW_UNMET_ABSENT on. */
 const UNMET = { 1: 'Absent', 2: 'Other' };
-/** FOW_BOUND_NOT of fowharimu.h. */
-const NOT_BOUND = 0;
+/** FOW_BOUND_CERTIFICATE and FOW_BINDING_UNKNOWN of fowharimu.h, of which no bit and no fault is the other; and no certificate. */
+const BOUND_CERTIFICATE = 2, BINDING_UNKNOWN = 1401;
+const NO_CERTIFICATE = new Uint8Array(0);
 const NOTHING_REMEMBERED = { tokens: 0, octets: 0 };
 /** The names of options. */
 const OPENING = ['remember', 'once'], REMEMBER = ['tokens', 'octets'], ISSUING = ['key', 'alg', 'form', 'typ'];
-const ASKING = ['access', 'expected', 'hashes', 'holder', 'now'], SHOWING = ['dpop', 'method', 'uri', 'nonce', 'nonces'];
+const ASKING = ['access', 'expected', 'hashes', 'holder', 'now'], SHOWING = ['dpop', 'method', 'uri', 'nonce', 'nonces'], HOLDING = ['share', 'opened'];
 const GREATEST_NUMBER = 2 ** 32 - 1;
 const PARTS = { 1: 'payload', 2: 'protected', 3: 'signature' };
 const STATES = { 1: 'barred', 2: 'no key', 3: 'bad signature', 4: 'verified', 5: 'not reached', 6: 'stopped' };
@@ -166,20 +167,26 @@ class Once {
 
   static {
     isOnce = (it) => typeof it === 'object' && it !== null && #held in it;
-    take = (once, call, held, now) => {
+    take = (once, isProof, held, now) => {
       if (once.#isClosed) throw new Closed('the memory of tokens that count once is closed');
-      const taken = call(once.#held, held, now);
+      const taken = (isProof ? native.proofTaken : native.taken)(once.#held, held, now);
       if (taken === TAKEN_NEW) return;
       const fault = NOT_TAKEN[taken];
-      throw new NotTaken(`the token counts once, and isn't taken: ${fault}`, { fault });
+      const refusal = new NotTaken(`the token counts once, and isn't taken: ${fault === 'Before' ? 'it was issued before this memory was opened' : fault}`, { fault });
+      outcomes.set(refusal, native.takenOutcome(isProof ? 1 : 0, REFUSED, taken));
+      throw refusal;
     };
   }
 
-  constructor(tokens) {
+  constructor(tokens, how = {}, ...others) {
+    if (others.length > 0) throw new TypeError('a number of tokens and { share, opened } are taken, and nothing more');
     compareLibrary();
-    const room = whole(tokens, 'once');
+    const room = whole(tokens, 'once'), members = own(how, HOLDING, 'a memory');
     if (room === 0) throw new RangeError('once has to be at least 1');
-    this.#held = native.openOnce(room);
+    const share = 'share' in members ? whole(members.share, 'share') : 0, opened = 'opened' in members ? moment(members.opened) : moment() + 1;
+    if ('share' in members && share === 0) throw new RangeError('share has to be at least 1');
+    if (opened < 0) throw new RangeError('opened has to be a moment from 1970 on');
+    this.#held = native.openOnce(room, share, opened);
   }
 
   close() {
@@ -200,7 +207,12 @@ const outcomes = new WeakMap();
 
 /** A token that is accepted, and whose sender hasn't shown that the key is theirs. */
 function notHeld(fault) {
-  return new NotHeld(`the sender of the token doesn't hold its key: ${told(fault, meanings.proof[fault] ?? meanings.token[fault])}`, { fault });
+  return new NotHeld(`the sender of the token doesn't hold its key: ${told(fault, meanings.proof[fault] ?? meanings.binding[fault] ?? meanings.token[fault])}`, { fault });
+}
+
+/** The same, where native.shown has said that some way in which the token is bound isn't shown; null where each is. */
+function unshown(said) {
+  return said < BINDING_UNKNOWN ? null : notHeld(native.faultName(said));
 }
 
 /** The same, where a proof isn't one for its request. */
@@ -254,18 +266,11 @@ class Proofs {
       const number = native.proofFault(proofs.#held, validator, ...texts, now);
       if (number !== NO_FAULT) return notProved(REFUSED, number);
       const fresh = nonces === undefined ? OK : freshness(nonces, proofs.#held, now);
-      if (fresh === OK) return null;
+      if (fresh === OK) return unshown(native.shown(validator, proofs.#held, NO_CERTIFICATE));
       if (fresh === NOT_EXPECTED) return notProved(NOT_EXPECTED, OTHER_NONCE);
       throw new Error('an allocation was refused');
     };
-    takeProof = (proofs, now) => {
-      try {
-        take(proofs.#once, native.proofTaken, proofs.#held, now);
-      } catch (error) {
-        if (error instanceof NotTaken) outcomes.set(error, native.proofOutcome(REFUSED, NO_FAULT));
-        throw error;
-      }
-    };
+    takeProof = (proofs, now) => take(proofs.#once, true, proofs.#held, now);
     algsOf = (proofs) => native.proofAlgs(proofs.#held, proofs.#room);
   }
 
@@ -316,12 +321,17 @@ class Certificate {
   constructor(der) {
     if (!types.isUint8Array(der)) throw new TypeError('a certificate is a Uint8Array');
     const copy = copied(der);
-    holders.set(this, { refusal: (validator) => (native.certificateHolds(validator, copy) ? null : notHeld('OtherCertificate')), take: takeNothing });
+    holders.set(this, { refusal: (validator) => byCertificate(native.shown(validator, null, copy)), take: takeNothing });
   }
 }
 
+/** Why a token isn't bound to the certificate by which native.shown was asked; null where it is. */
+function byCertificate(said) {
+  return unshown(said) ?? (said & BOUND_CERTIFICATE ? null : notHeld('OtherCertificate'));
+}
+
 const UNBOUND = Object.freeze(Object.create(null));
-holders.set(UNBOUND, { refusal: (validator) => (native.bound(validator) === NOT_BOUND ? null : notHeld('Bound')), take: takeNothing });
+holders.set(UNBOUND, { refusal: (validator) => (unshown(native.shown(validator, null, NO_CERTIFICATE)) === null ? null : notHeld('Bound')), take: takeNothing });
 
 function holderOf(it) {
   const holder = holders.get(it);
@@ -448,7 +458,7 @@ class Validator {
     const claims = reading(native.payload(this.#held));
     // (a client makes another proof, and no other token)
     holder?.take(now);
-    if (this.#once !== undefined) take(this.#once, native.taken, this.#held, now);
+    if (this.#once !== undefined) take(this.#once, false, this.#held, now);
     return claims;
   }
 

@@ -80,7 +80,10 @@ static void check_replies(void)
         { FOW_KEYS_TOO_OLD, 503, "", "", "" },
         { FOW_PROOF_REFUSED, 401, "Bearer error=\"invalid_dpop_proof\"", "Bearer realm=\"a realm\"", "DPoP algs=\"ES256\", error=\"invalid_dpop_proof\"" },
         { FOW_NONCE_WANTED, 401, "Bearer error=\"use_dpop_nonce\"", "Bearer realm=\"a realm\"", "DPoP algs=\"ES256\", error=\"use_dpop_nonce\"" },
-        { 11, 500, "", "", "" },
+        { FOW_PATH_FORM, 400, "", "", "" },
+        { FOW_SHARE_USED_UP, 429, "", "", "" },
+        { FOW_MEMORY_FULL, 503, "", "", "" },
+        { 14, 500, "", "", "" },
         { UINT32_MAX, 500, "", "", "" },
     };
     for (size_t row = 0; row < sizeof rows / sizeof *rows; row++) {
@@ -118,6 +121,7 @@ static void check_proof_outcomes(void)
         { FOW_REFUSED, FOW_PROOF_OTHER_NONCE, FOW_NONCE_WANTED },
         { FOW_REFUSED, FOW_PROOF_OTHER_KEY, FOW_NOT_ACCEPTED },
         { FOW_REFUSED, FOW_PROOF_OTHER_URI, FOW_PROOF_REFUSED },
+        { FOW_REFUSED, FOW_PROOF_PATH_FORM, FOW_PATH_FORM },
         { FOW_REFUSED, 0, FOW_PROOF_REFUSED },
         { FOW_REFUSED, UINT32_MAX, FOW_PROOF_REFUSED },
         { FOW_ABSENT, FOW_PROOF_OTHER_NONCE, FOW_UNANSWERED },

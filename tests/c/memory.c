@@ -188,7 +188,7 @@ static fow_once once = FOW_ONCE_INIT;
 
 static uint32_t open_once(void)
 {
-    return fow_once_open(&once, 64);
+    return fow_once_open(&once, 64, 0, 0);
 }
 
 static uint32_t take_it(void)

@@ -49,10 +49,12 @@ static uint8_t secret[80];
 
 enum { PERIOD = 300 };
 
-/* By an entry of the proof that is kept: the status, with what it tells. */
-static uint32_t entry(uint8_t *mark, size_t mark_len, uint64_t *until, uint32_t *lacks)
+/* What fow_shown says of the token that was accepted last, with the proof that is kept. */
+static uint32_t shown(fow_validator *by, const uint8_t *der, size_t der_len, uint32_t *fault)
 {
-    return fow_possession_entry(&possession, mark, mark_len, until, lacks);
+    uint32_t ways = 77, status = fow_shown(by, &possession, der, der_len, &ways, fault);
+    CHECK(status == FOW_OK || ways == FOW_BOUND_NOT);
+    return status;
 }
 
 static uint32_t fresh(int64_t now)
@@ -261,7 +263,7 @@ static void check_fresh(const row *timely)
     CHECK(fow_possession_fresh(&possession, secret, FOW_NONCE_SECRET_LEN - 1, PERIOD, MOMENT) == FOW_REFUSED);
     CHECK(fow_possession_fresh(&possession, secret, FOW_NONCE_SECRET_LEN, 0, MOMENT) == FOW_REFUSED);
     /* (it stays kept, and isn't taken yet) */
-    CHECK(fow_once_open(&once, 2) == FOW_OK);
+    CHECK(fow_once_open(&once, 2, 2, 0) == FOW_OK);
     CHECK(fow_possession_take(&possession, &once, MOMENT, &taken) == FOW_OK && fresh(MOMENT) == FOW_OK);
 }
 
@@ -286,15 +288,12 @@ static void check_entry(const row *good)
         0xb1, 0xa5, 0xba, 0x46, 0xcb, 0x14, 0x6f, 0x0b, 0x4e, 0x4a, 0xc1, 0x5d, 0x59, 0x68, 0xb2, 0x03,
         0xbc, 0xaa, 0xe1, 0x63, 0x75, 0xcf, 0x7c, 0x1e, 0x55, 0x7e, 0xe8, 0x16, 0xc5, 0xd2, 0x9d, 0x41,
     };
-    uint8_t mark[FOW_MARK_LEN + 1];
-    uint64_t until = 7;
-    uint32_t fault, lacks = 77;
-    memset(mark, '!', sizeof mark);
+    fow_entry entry;
+    uint32_t fault;
     CHECK(judge_access(good->token, MOMENT) == FOW_OK);
     CHECK(judge(good, &validator, MOMENT, &fault) == FOW_OK);
-    CHECK(entry(mark, FOW_MARK_LEN - 1, &until, &lacks) == FOW_TOO_SHORT && until == 7 && mark[0] == '!');
-    CHECK(entry(mark, sizeof mark, &until, &lacks) == FOW_OK && lacks == FOW_TAKEN_NOTHING && until == MOMENT + LIFE);
-    CHECK(memcmp(mark, wanted, FOW_MARK_LEN) == 0 && mark[FOW_MARK_LEN] == '!');
+    CHECK(fow_possession_entry(&possession, &entry) == FOW_OK && memcmp(entry.mark, wanted, FOW_MARK_LEN) == 0);
+    CHECK(entry.moment == MOMENT && entry.grace == LIFE && entry.issued == MOMENT - 5);
 }
 
 /* Handles that hold nothing, and a validator that has accepted nothing. */
@@ -304,12 +303,12 @@ static void check_none(const row *it)
     char text[FOW_THUMBPRINT_LEN + 1];
     uint8_t out[64];
     size_t written = 7;
-    uint64_t until = 7;
-    uint32_t fault = 77, taken = 77, how = 77;
+    fow_entry entry = { .moment = 7 };
+    uint32_t fault = 77, taken = 77;
     CHECK(judge(it, &validator, MOMENT, &fault) == FOW_NOT_OPEN && fault == FOW_NO_FAULT);
     CHECK(fresh(MOMENT) == FOW_NOT_OPEN && fow_possession_fresh(&possession, secret, 1, 0, MOMENT) == FOW_NOT_OPEN);
     CHECK(fow_possession_algs(&possession, out, sizeof out, &written) == FOW_NOT_OPEN && written == 7);
-    CHECK(entry(out, sizeof out, &until, &taken) == FOW_NOT_OPEN && until == 7);
+    CHECK(fow_possession_entry(&possession, &entry) == FOW_NOT_OPEN && entry.moment == 7);
     CHECK(fow_possession_take(&possession, &once, MOMENT, &taken) == FOW_NOT_OPEN && taken == FOW_TAKEN_NOTHING);
     CHECK(thumbprint(text) == FOW_NOT_OPEN);
     check_policies();
@@ -317,17 +316,16 @@ static void check_none(const row *it)
     CHECK(fow_possession_open(&possession, at(policy), sizeof policy - 1, &fault) == FOW_OK && fault == FOW_NO_FAULT);
     CHECK(thumbprint(text) == FOW_ABSENT);
     CHECK(fresh(MOMENT) == FOW_ABSENT && fow_possession_fresh(&possession, secret, 1, PERIOD, MOMENT) == FOW_REFUSED);
-    CHECK(entry(out, sizeof out, &until, &taken) == FOW_ABSENT && until == 7 && taken == FOW_TAKEN_NOTHING);
+    CHECK(fow_possession_entry(&possession, &entry) == FOW_ABSENT && entry.moment == 7);
     CHECK(judge(it, &none, MOMENT, &fault) == FOW_NOT_OPEN);
     CHECK(judge(it, &validator, MOMENT, &fault) == FOW_ABSENT);
     CHECK(fow_possession_take(&possession, &once, MOMENT, &taken) == FOW_NOT_OPEN);
-    CHECK(fow_once_open(&once, 2) == FOW_OK);
+    CHECK(fow_once_open(&once, 2, 2, 0) == FOW_OK);
     CHECK(fow_possession_take(&possession, &once, MOMENT, &taken) == FOW_ABSENT && taken == FOW_TAKEN_NOTHING);
-    CHECK(fow_bound(&none, &how) == FOW_NOT_OPEN && how == FOW_BOUND);
-    how = 77;
-    CHECK(fow_bound(&validator, &how) == FOW_ABSENT && how == FOW_BOUND);
-    CHECK(fow_certificate_holds(&none, at("a"), 1) == FOW_NOT_OPEN);
-    CHECK(fow_certificate_holds(&validator, at("a"), 1) == FOW_ABSENT);
+    fault = 77;
+    CHECK(shown(&none, at("a"), 1, &fault) == FOW_NOT_OPEN && fault == FOW_NO_FAULT);
+    fault = 77;
+    CHECK(shown(&validator, at("a"), 1, &fault) == FOW_ABSENT && fault == FOW_NO_FAULT);
 }
 
 /* A proof beside the wrong token, and after it nothing is kept. */
@@ -401,7 +399,7 @@ static void check_ages(const row *good)
     fow_validator none = FOW_VALIDATOR_INIT;
     fow_possession second = FOW_POSSESSION_INIT;
     fow_once both = FOW_ONCE_INIT;
-    CHECK(fow_possession_open(&second, at(older), sizeof older - 1, &fault) == FOW_OK && fow_once_open(&both, 9) == FOW_OK);
+    CHECK(fow_possession_open(&second, at(older), sizeof older - 1, &fault) == FOW_OK && fow_once_open(&both, 9, 9, 0) == FOW_OK);
     CHECK(judge_access(good->token, MOMENT) == FOW_OK);
     CHECK(judge(good, &validator, MOMENT, &fault) == FOW_OK);
     CHECK(fow_possession_take(&possession, &both, MOMENT, &taken) == FOW_OK && taken == FOW_TAKEN_NEW);
@@ -412,37 +410,75 @@ static void check_ages(const row *good)
     fow_once_close(&both);
 }
 
-/* How tokens of these claims are bound. The certificate is the DER `0\x03\x02\x01\x00`, whose digest OpenSSL gives. */
-static void check_bound(void)
+/* Tokens of these claims, by what was shown: no proof (the proof of `key`, where that isn't NULL), and the certificate `0\x03\x02\x01\x00`, whose digest OpenSSL gives. */
+static void check_bound(const row *good)
 {
 #define DIGEST "tWCDPW94evRhE7lqrU3VtdGuANzMac8wzJK-1lHFZhc"
     static const uint8_t der[] = { 0x30, 3, 2, 1, 0 }, other[] = { 0x30, 3, 2, 1, 1 };
+    char key[FOW_THUMBPRINT_LEN + 1] = "", claims[256];
+    /* What `cnf` is, `%s` being the thumbprint of the key; what is said with nothing shown, with the key, with the certificate, with both. */
     static const struct {
-        const char *claims;
-        uint32_t how, holds;
+        const char *cnf;
+        uint32_t nothing, by_key, by_certificate, by_both;
     } rows[] = {
-        { "{\"jkt\":\"a\",\"x5t#S256\":\"" DIGEST "\"}", FOW_BOUND_NOT, FOW_NOT_EXPECTED },
-        { "{\"cnf\":{\"kid\":\"a\"}}", FOW_BOUND, FOW_NOT_EXPECTED },
-        { "{\"cnf\":\"a\"}", FOW_BOUND, FOW_NOT_EXPECTED },
-        { "{\"cnf\":null}", FOW_BOUND, FOW_NOT_EXPECTED },
-        { "{\"cnf\":{\"jkt\":\"a\"}}", FOW_BOUND + FOW_BOUND_KEY, FOW_NOT_EXPECTED },
-        { "{\"cnf\":{\"jkt\":7,\"x5t#S256\":[\"" DIGEST "\"]}}", FOW_BOUND, FOW_NOT_EXPECTED },
-        { "{\"cnf\":{\"x5t#S256\":\"" DIGEST "\"}}", FOW_BOUND + FOW_BOUND_CERTIFICATE, FOW_OK },
-        { "{\"cnf\":{\"x5t#S256\":\"" DIGEST "=\"}}", FOW_BOUND + FOW_BOUND_CERTIFICATE, FOW_NOT_EXPECTED },
-        { "{\"cnf\":{\"jkt\":\"a\",\"x5t#S256\":\"" DIGEST "\"}}", FOW_BOUND + FOW_BOUND_KEY + FOW_BOUND_CERTIFICATE, FOW_OK },
+        { "\"jkt\":\"a\",\"x5t#S256\":\"" DIGEST "\"", FOW_NO_FAULT, FOW_NO_FAULT, FOW_NO_FAULT, FOW_NO_FAULT },
+        { "\"cnf\":{\"kid\":\"a\"}", FOW_BINDING_UNKNOWN, FOW_BINDING_UNKNOWN, FOW_BINDING_UNKNOWN, FOW_BINDING_UNKNOWN },
+        { "\"cnf\":{}", FOW_BINDING_UNKNOWN, FOW_BINDING_UNKNOWN, FOW_BINDING_UNKNOWN, FOW_BINDING_UNKNOWN },
+        { "\"cnf\":\"a\"", FOW_BINDING_UNKNOWN, FOW_BINDING_UNKNOWN, FOW_BINDING_UNKNOWN, FOW_BINDING_UNKNOWN },
+        { "\"cnf\":null", FOW_BINDING_UNKNOWN, FOW_BINDING_UNKNOWN, FOW_BINDING_UNKNOWN, FOW_BINDING_UNKNOWN },
+        { "\"cnf\":{\"jkt\":\"%s\",\"kid\":\"a\"}", FOW_BINDING_UNKNOWN, FOW_BINDING_UNKNOWN, FOW_BINDING_UNKNOWN, FOW_BINDING_UNKNOWN },
+        { "\"cnf\":{\"jkt\":\"%s\"}", FOW_BINDING_OTHER_KEY, FOW_NO_FAULT, FOW_BINDING_OTHER_KEY, FOW_NO_FAULT },
+        { "\"cnf\":{\"jkt\":\"a\"}", FOW_BINDING_OTHER_KEY, FOW_BINDING_OTHER_KEY, FOW_BINDING_OTHER_KEY, FOW_BINDING_OTHER_KEY },
+        { "\"cnf\":{\"jkt\":7}", FOW_BINDING_OTHER_KEY, FOW_BINDING_OTHER_KEY, FOW_BINDING_OTHER_KEY, FOW_BINDING_OTHER_KEY },
+        { "\"cnf\":{\"x5t#S256\":\"" DIGEST "\"}", FOW_BINDING_OTHER_CERTIFICATE, FOW_BINDING_OTHER_CERTIFICATE, FOW_NO_FAULT, FOW_NO_FAULT },
+        { "\"cnf\":{\"x5t#S256\":\"" DIGEST "=\"}", FOW_BINDING_OTHER_CERTIFICATE, FOW_BINDING_OTHER_CERTIFICATE, FOW_BINDING_OTHER_CERTIFICATE, FOW_BINDING_OTHER_CERTIFICATE },
+        { "\"cnf\":{\"x5t#S256\":[\"" DIGEST "\"]}", FOW_BINDING_OTHER_CERTIFICATE, FOW_BINDING_OTHER_CERTIFICATE, FOW_BINDING_OTHER_CERTIFICATE, FOW_BINDING_OTHER_CERTIFICATE },
+        { "\"cnf\":{\"jkt\":\"%s\",\"x5t#S256\":\"" DIGEST "\"}", FOW_BINDING_OTHER_KEY, FOW_BINDING_OTHER_CERTIFICATE, FOW_BINDING_OTHER_KEY, FOW_NO_FAULT },
     };
     static uint8_t token[1024];
+    fow_possession none = FOW_POSSESSION_INIT;
+    uint32_t ways, fault;
+    CHECK(judge_access(good->token, MOMENT) == FOW_OK && judge(good, &validator, MOMENT, &fault) == FOW_OK && thumbprint(key) == FOW_OK);
     for (size_t i = 0; i < sizeof rows / sizeof *rows; i++) {
         size_t written;
-        uint32_t how = 77;
         fow_report report;
-        CHECK(fow_issue(&validator, FOW_HS256, FOW_COMPACT, 0, at(""), 0, at(rows[i].claims), strlen(rows[i].claims), token, sizeof token, &written, &report) == FOW_OK);
+        char cnf[224];
+        uint32_t bound = i == 0 ? FOW_BOUND_NOT : (strstr(rows[i].cnf, "jkt") ? FOW_BOUND_KEY : 0) + (strstr(rows[i].cnf, "x5t") ? FOW_BOUND_CERTIFICATE : 0);
+        CHECK(snprintf(cnf, sizeof cnf, rows[i].cnf, key) < (int)sizeof cnf && snprintf(claims, sizeof claims, "{%s}", cnf) < (int)sizeof claims);
+        CHECK(fow_issue(&validator, FOW_HS256, FOW_COMPACT, 0, at(""), 0, at(claims), strlen(claims), token, sizeof token, &written, &report) == FOW_OK);
         CHECK(fow_judge(&validator, token, written, MOMENT, &report) == FOW_OK);
-        CHECK(fow_bound(&validator, &how) == FOW_OK && how == rows[i].how);
-        CHECK(fow_certificate_holds(&validator, der, sizeof der) == rows[i].holds);
-        CHECK(fow_certificate_holds(&validator, other, sizeof other) == FOW_NOT_EXPECTED);
-        CHECK(fow_certificate_holds(&validator, der, 0) == FOW_NOT_EXPECTED);
+#define SAYS(possession, der, len, wanted) \
+    CHECK(fow_shown(&validator, possession, der, len, &ways, &fault) == ((wanted) == FOW_NO_FAULT ? FOW_OK : FOW_REFUSED) && fault == (wanted)); \
+    CHECK(ways == ((wanted) == FOW_NO_FAULT ? bound : FOW_BOUND_NOT))
+        SAYS(&none, der, 0, rows[i].nothing);
+        SAYS(&possession, der, 0, rows[i].by_key);
+        SAYS(&none, der, sizeof der, rows[i].by_certificate);
+        SAYS(&possession, der, sizeof der, rows[i].by_both);
+        SAYS(&none, other, sizeof other, rows[i].nothing);
     }
+    CHECK(thumbprint(key) == FOW_OK);
+}
+
+/* One client that makes a key for each proof, beside another's first proof: the owner is the access token's, so its share is used up, and nobody else's. The proofs are
+ * of the row, whose access token has no owner; so the memory is filled by tokens of one subject, and the proof gets in. */
+static void check_flood(const row *good)
+{
+    fow_once shared = FOW_ONCE_INIT;
+    static uint8_t token[512];
+    uint32_t fault, taken;
+    CHECK(fow_once_open(&shared, 4, 2, 0) == FOW_OK);
+    for (int i = 0; i < 4; i++) {
+        char claims[96];
+        size_t written;
+        fow_report report;
+        int len = snprintf(claims, sizeof claims, "{\"iss\":\"i\",\"sub\":\"ann\",\"jti\":\"%d\",\"exp\":%d}", i, MOMENT + 600);
+        CHECK(fow_issue(&validator, FOW_HS256, FOW_COMPACT, 0, at(""), 0, at(claims), (size_t)len, token, sizeof token, &written, &report) == FOW_OK);
+        CHECK(fow_judge(&validator, token, written, MOMENT, &report) == FOW_OK);
+        CHECK(fow_once_take(&shared, &validator, MOMENT, &taken) == (i < 2 ? FOW_OK : FOW_REFUSED) && taken == (i < 2 ? FOW_TAKEN_NEW : FOW_TAKEN_OWN_FULL));
+    }
+    CHECK(judge_access(good->token, MOMENT) == FOW_OK && judge(good, &validator, MOMENT, &fault) == FOW_OK);
+    CHECK(fow_possession_take(&possession, &shared, MOMENT, &taken) == FOW_OK);
+    fow_once_close(&shared);
 }
 
 /* The calls that take memory, on a row. */
@@ -466,9 +502,10 @@ static uint32_t take_it(void)
     return fow_possession_take(&possession, &once, MOMENT, &taken);
 }
 
-static uint32_t holds_it(void)
+static uint32_t shown_it(void)
 {
-    return fow_certificate_holds(&validator, at("a"), 1);
+    uint32_t fault;
+    return shown(&validator, at("a"), 1, &fault);
 }
 
 /* Refuses each allocation of a call in turn, and then all after it, until the call needs no more. */
@@ -495,15 +532,14 @@ static void check_memory(const row *good)
     /* (these take no memory) */
     uint8_t out[64];
     size_t written;
-    uint64_t until;
-    uint32_t lacks;
+    fow_entry entry;
     granted = 0;
     CHECK(fow_possession_algs(&possession, out, sizeof out, &written) == FOW_OK);
     CHECK(fow_nonce(secret, FOW_NONCE_SECRET_LEN, PERIOD, MOMENT, out, sizeof out, &written) == FOW_OK);
     CHECK(fresh(MOMENT) == FOW_NOT_EXPECTED);
-    CHECK(entry(out, sizeof out, &until, &lacks) == FOW_OK);
+    CHECK(fow_possession_entry(&possession, &entry) == FOW_OK);
     granted = -1;
-    CHECK(fow_once_open(&once, 2) == FOW_OK);
+    CHECK(fow_once_open(&once, 2, 2, 0) == FOW_OK);
     refuse_each("fow_possession_take", take_it, FOW_OK);
     CHECK(take_it() == FOW_REFUSED);
     static const char bound[] = "{\"cnf\":{\"x5t#S256\":\"a\"}}";
@@ -511,7 +547,7 @@ static void check_memory(const row *good)
     fow_report report;
     CHECK(fow_issue(&validator, FOW_HS256, FOW_COMPACT, 0, at(""), 0, at(bound), sizeof bound - 1, token, sizeof token, &written, &report) == FOW_OK);
     CHECK(fow_judge(&validator, token, written, MOMENT, &report) == FOW_OK);
-    refuse_each("fow_certificate_holds", holds_it, FOW_NOT_EXPECTED);
+    refuse_each("fow_shown", shown_it, FOW_REFUSED);
 }
 
 int main(int argc, char **argv)
@@ -530,7 +566,8 @@ int main(int argc, char **argv)
     check_ages(&first);
     check_fresh(&timely);
     check_entry(&first);
-    check_bound();
+    check_bound(&first);
+    check_flood(&first);
     check_memory(&first);
     fow_once_close(&once);
     fow_possession_close(&possession);

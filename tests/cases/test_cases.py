@@ -14,11 +14,11 @@ KINDS = ("", "policy", "keys", "text", "form", "ceiling", "signature", "claims",
 
 
 def faults() -> set[str]:
-    """Each fault of fowharimu.h by its kind and its name, but for those of proofs of possession, which stand in tests/possession."""
+    """Each fault of fowharimu.h by its kind and its name, but for those of proofs of possession and of bound tokens, which stand in tests/possession and tests/c."""
     header = (corpus.TOP / "include/fowharimu.h").read_text()
     numbers = re.search(r"enum fow_fault \{(.*?)\n\};", header, re.S)[1]
     names = dict(re.findall(r'case (FOW_\w+):\s+return "(\w+)"', (corpus.TOP / "bindings/c/fault_name.c").read_text()))
-    return {f"{KINDS[int(number) // 100]}.{names[word]}" for word, number in re.findall(r"(FOW_(?!PROOF_)\w+) = ([1-9]\d{2,3})\b", numbers)}
+    return {f"{KINDS[int(number) // 100]}.{names[word]}" for word, number in re.findall(r"(FOW_(?!PROOF_|BINDING_)\w+) = ([1-9]\d{2,3})\b", numbers)}
 
 
 def said() -> dict[str, str]:

@@ -159,10 +159,9 @@ static void judge_proof(const call *c)
 /* A proof is taken once, where one is kept, and its entry is told exactly then. */
 static void take_proof(const call *c)
 {
-    uint8_t mark[FOW_MARK_LEN];
-    uint64_t until;
-    uint32_t taken = 77, again = 77, lacks = 77;
-    uint32_t told = fow_possession_entry(&c->one->possession, mark, sizeof mark, &until, &lacks);
+    fow_entry entry;
+    uint32_t taken = 77, again = 77;
+    uint32_t told = fow_possession_entry(&c->one->possession, &entry);
     uint32_t status = fow_possession_take(&c->one->possession, &c->other->once, moment, &taken);
     cover_outcome(2 << 16 | status << 4 | taken);
     CHECK(told == (!c->one->has_policy ? FOW_NOT_OPEN : c->one->is_kept ? FOW_OK : FOW_ABSENT));
@@ -171,7 +170,7 @@ static void take_proof(const call *c)
     if (status == FOW_OK)
         CHECK(taken == FOW_TAKEN_NEW && fow_possession_take(&c->one->possession, &c->other->once, moment, &again) == FOW_REFUSED && again == FOW_TAKEN_SEEN);
     else if (status == FOW_REFUSED)
-        CHECK(taken == FOW_TAKEN_SEEN || taken == FOW_TAKEN_LATE || taken == FOW_TAKEN_FULL);
+        CHECK(taken == FOW_TAKEN_SEEN || taken == FOW_TAKEN_LATE || taken == FOW_TAKEN_BEFORE || taken == FOW_TAKEN_FULL || taken == FOW_TAKEN_OWN_FULL);
     else
         CHECK(taken == FOW_TAKEN_NOTHING);
 }
@@ -179,18 +178,17 @@ static void take_proof(const call *c)
 static void open_once(const call *c)
 {
     size_t count = c->choice & 3;
-    uint32_t status = fow_once_open(&c->one->once, count);
+    uint32_t status = fow_once_open(&c->one->once, count, c->choice >> 2 & 3, c->choice & 16 ? (uint64_t)moment : 0);
     CHECK(status == (count == 0 ? FOW_REFUSED : FOW_OK));
     c->one->has_once |= status == FOW_OK;
 }
 
 static void take_token(const call *c)
 {
-    uint8_t mark[FOW_MARK_LEN];
-    uint64_t until;
+    fow_entry entry;
     uint32_t taken = 77, lacks = 77;
     uint32_t status = fow_once_take(&c->one->once, &c->other->validator, moment, &taken);
-    uint32_t told = fow_once_entry(&c->other->validator, mark, sizeof mark, &until, &lacks);
+    uint32_t told = fow_once_entry(&c->other->validator, moment, &entry, &lacks);
     cover_outcome(3 << 16 | status << 8 | taken << 4 | told);
     CHECK((status == FOW_NOT_OPEN) == (!c->one->has_once || !c->other->has_validator));
     CHECK(status == FOW_NOT_OPEN || (status == FOW_ABSENT) == (c->other->accepted == NONE));
@@ -214,15 +212,16 @@ static void ask_nonce(const call *c)
         CHECK(c->one->is_kept ? status == FOW_OK || status == FOW_NOT_EXPECTED : status == FOW_ABSENT);
 }
 
-/* How the token that was accepted last is bound, and by a certificate that it isn't bound to. */
+/* Whether each way in which the token that was accepted last is bound is shown, by a proof that may be kept and a certificate that it isn't bound to. */
 static void ask_binding(const call *c)
 {
-    uint32_t how = 77, held_by = fow_certificate_holds(&c->one->validator, c->row->proof.at, c->place);
-    uint32_t status = fow_bound(&c->one->validator, &how);
-    uint32_t wanted = !c->one->has_validator ? FOW_NOT_OPEN : c->one->accepted == NONE ? FOW_ABSENT : FOW_OK;
-    cover_outcome(5 << 16 | status << 4 | how);
-    CHECK(status == wanted && held_by == (wanted == FOW_OK ? FOW_NOT_EXPECTED : wanted));
-    CHECK(status == FOW_OK || how == FOW_BOUND);
+    uint32_t ways = 77, fault = 77;
+    uint32_t status = fow_shown(&c->one->validator, &c->other->possession, c->row->proof.at, c->place, &ways, &fault);
+    cover_outcome(5 << 16 | status << 11 | fault);
+    CHECK((status == FOW_NOT_OPEN) == !c->one->has_validator);
+    CHECK(status == FOW_NOT_OPEN || (status == FOW_ABSENT) == (c->one->accepted == NONE));
+    CHECK(status == FOW_REFUSED ? fault >= FOW_BINDING_UNKNOWN && fault <= FOW_BINDING_OTHER_CERTIFICATE : fault == FOW_NO_FAULT);
+    CHECK(status == FOW_OK ? ways <= 3 : ways == FOW_BOUND_NOT);
 }
 
 /* What is expected of the claims of the token that was accepted last. */

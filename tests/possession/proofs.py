@@ -42,11 +42,15 @@ def compact(value: object) -> str:
     return json.dumps(value, separators=(",", ":"), ensure_ascii=False)
 
 
-def thumbprint(alg: str) -> str:
-    """The thumbprint of the key of this algorithm (RFC 7638)."""
-    key = json.loads(key_text(alg))
+def thumbprint_of(key: dict) -> str:
+    """The thumbprint of a key (RFC 7638)."""
     names = {"EC": ("crv", "kty", "x", "y"), "OKP": ("crv", "kty", "x"), "RSA": ("e", "kty", "n")}[key["kty"]]
     return base64url(hashlib.sha256(compact({name: key[name] for name in names}).encode()).digest())
+
+
+def thumbprint(alg: str) -> str:
+    """The thumbprint of the key of this algorithm."""
+    return thumbprint_of(json.loads(key_text(alg)))
 
 
 def hash_of(token: str) -> str:
@@ -184,9 +188,9 @@ URIS = [
     ("slash-encoded-in-the-path", "https://api.example/a%2Fthings", "https://api.example/a/things", False),
     ("reserved-encoded", "https://api.example/a%3Bb", "https://api.example/a;b", False),
     ("query-encoded", "https://api.example/things%3Fa=b", URI, False),
-    ("percent-alone", "https://api.example/things%", "https://api.example/things%", False),
-    ("percent-and-one-digit", "https://api.example/things%7", "https://api.example/things%7", False),
-    ("percent-and-no-digits", "https://api.example/%zz", "https://api.example/%zz", False),
+    ("percent-alone", "https://api.example/things%", URI, False),
+    ("percent-and-one-digit", "https://api.example/things%7", URI, False),
+    ("percent-and-no-digits", "https://api.example/%zz", URI, False),
     ("encoded-twice", "https://api.example/%2574hings", URI, False),
     ("scheme-encoded", "http%73://api.example/things", URI, False),
     ("port-encoded", "https://api.example:%34%34%33/things", URI, False),
@@ -198,9 +202,23 @@ URIS = [
 ]
 
 
+# Paths of requests: those of which every reader makes the same, and those of which some make another (docs/POSSESSION.md).
+AGREED_PATHS = ["", "/", "/a/", "/a%20b", "/%C3%A9", "/a;v=1", "/a;v=1/b", "/.a", "/...", "/a..b", "/a:b@c", "/%E2%82%AC", "/a%22b", "/!$&'()*+,="]
+OTHER_PATHS = [
+    "//", "//a", "/a//b", "/a//", "/./a", "/a/.", "/../a", "/a/..", "/a/../b", "/a/..;/b", "/a/.;x/b", "/..;x=1", "/;x/", "/a/;x", "/a%2Fb", "/a%2fb", "/%2E", "/%2e%2e/a", "/a%5Cb",
+    "/a%25b", "/a%252Fb", "/a%3Bb", "/%41", "/a%7Eb", "/%2D", "/%e9", "/%c3%a9", "/\u00e9", "/a\\b", "/a b", "/a\"b", "/a%00", "/a%0A", "/a%7F", "/a%", "/a%2", "/a%zz", "/a<b>", "/a|b", "/[a]",
+]
+
+
 def uris() -> list[Row]:
-    """Each way to write `htu` (step 9)."""
-    return [Row(f"uri-{name}", "held" if same else "OtherUri", made(claims={"htu": htu}), uri=uri) for name, htu, uri, same in URIS]
+    """Each way to write `htu` (step 9), and the path of the request."""
+    rows = [Row(f"uri-{name}", "held" if same else "OtherUri", made(claims={"htu": htu}), uri=uri) for name, htu, uri, same in URIS]
+    for paths, answer in ((AGREED_PATHS, "held"), (OTHER_PATHS, "PathForm")):
+        rows += [Row(f"path {path}", answer, made(claims={"htu": f"https://api.example{path}"}), uri=f"https://api.example{path}") for path in paths]
+    rows.append(Row("path-before-uri", "PathForm", made(), uri=f"{URI}//"))
+    rows.append(Row("path-behind-a-query", "held", made(), uri=f"{URI}?a=/../b//c%2F"))
+    rows.append(Row("method-before-path", "OtherMethod", made(), method="POST", uri="https://api.example//"))
+    return rows
 
 
 def not_signed() -> list[Row]:
@@ -338,7 +356,7 @@ def for_another() -> list[Row]:
         Row("hash-by-another-function", "OtherAccessToken", made(claims={"ath": base64url(hashlib.sha512(TOKEN.encode()).digest())})),
         Row("left-half-of-the-hash", "OtherAccessToken", made(claims={"ath": hash_of(TOKEN)[:22]})),
         Row("hash-no-text", "OtherAccessToken", made(claims={"ath": [hash_of(TOKEN)]})),
-        Row("hash-before-key", "OtherAccessToken", made("EdDSA", without=("ath",))),
+        Row("key-before-hash", "OtherKey", made("EdDSA", without=("ath",))),
         Row("another-key", "OtherKey", made("EdDSA")),
         beside("token-not-bound", "OtherKey", compact({"sub": "user"})),
         beside("confirmation-no-object", "OtherKey", compact({"cnf": thumbprint("ES256")})),

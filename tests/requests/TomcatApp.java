@@ -70,10 +70,10 @@ final class TomcatApp {
 
     /** The guards that ask who sends a token. */
     private static void guardWithProofs(Context context, Path folder, Validator validator) throws Exception {
-        Dpop dpop = new Dpop(new Proofs(Files.readAllBytes(folder.resolve("proofs.json")), new Once(1000)), "https://api.example");
+        Dpop dpop = new Dpop(new Proofs(Files.readAllBytes(folder.resolve("proofs.json")), new Once(1000, 1000, java.time.Instant.EPOCH)), "https://api.example");
         Nonces nonces = new Nonces(Files.readAllBytes(folder.resolve("nonce.secret")), Duration.ofHours(1));
         Access scope = new Access(Files.readAllBytes(folder.resolve("scope.json")));
-        guard(context, "/unbound", new Guard(validator).refuseBound());
+        guard(context, "/unbound", new Guard(validator));
         guard(context, "/dpop", new Guard(validator).takeProofs(dpop));
         guard(context, "/dpop-only", new Guard(validator).takeProofs(dpop.only()));
         guard(context, "/dpop-nonce", new Guard(validator).takeProofs(dpop.nonces(nonces)));

@@ -7,7 +7,7 @@ import sys
 import flask
 from werkzeug.serving import make_server
 
-from fowharimu import Access, DPoP, Nonces, Proofs, Validator
+from fowharimu import Access, DPoP, Nonces, Once, Proofs, Validator
 from fowharimu.wsgi import Guard
 
 FOLDER = pathlib.Path(sys.argv[1])
@@ -45,11 +45,11 @@ def guards():
 
 def with_proofs(behind, validator):
     """The guards that ask who sends a token."""
-    proofs, origin = Proofs((FOLDER / "proofs.json").read_bytes(), 1000), "https://api.example"
+    proofs, origin = Proofs((FOLDER / "proofs.json").read_bytes(), Once(1000, share=1000, opened=0)), "https://api.example"
     nonces = Nonces((FOLDER / "nonce.secret").read_bytes(), 3600)
     dpop = DPoP(proofs, origin)
     return {
-        "/unbound": Guard(behind, validator, refuses_bound=True),
+        "/unbound": Guard(behind, validator),
         "/dpop": Guard(behind, validator, dpop=dpop),
         "/dpop-only": Guard(behind, validator, dpop=DPoP(proofs, origin, only=True)),
         "/dpop-nonce": Guard(behind, validator, dpop=DPoP(proofs, origin, nonces=nonces)),

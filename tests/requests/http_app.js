@@ -16,10 +16,10 @@ const guards = {
   '/hidden': guard(validator, { hidesToken: true }),
   '/closed': guard(closed),
 };
-const proofs = new Proofs(read('proofs.json'), new Once(1000)), origin = 'https://api.example';
+const proofs = new Proofs(read('proofs.json'), new Once(1000, { share: 1000, opened: 0 })), origin = 'https://api.example';
 const nonces = new Nonces(read('nonce.secret'), 3600);
 Object.assign(guards, {
-  '/unbound': guard(validator, { refusesBound: true }),
+  '/unbound': guard(validator),
   '/dpop': guard(validator, { dpop: { proofs, origin } }),
   '/dpop-only': guard(validator, { dpop: { proofs, origin, only: true } }),
   '/dpop-nonce': guard(validator, { dpop: { proofs, origin, nonces } }),

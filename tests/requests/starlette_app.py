@@ -10,7 +10,7 @@ from starlette.applications import Starlette
 from starlette.responses import Response
 from starlette.routing import Route
 
-from fowharimu import Access, DPoP, Nonces, Proofs, Validator
+from fowharimu import Access, DPoP, Nonces, Once, Proofs, Validator
 from fowharimu.asgi import Guard
 
 FOLDER = pathlib.Path(sys.argv[1])
@@ -50,11 +50,11 @@ def guards():
 
 def with_proofs(validator):
     """The guards that ask who sends a token."""
-    proofs, origin = Proofs((FOLDER / "proofs.json").read_bytes(), 1000), "https://api.example"
+    proofs, origin = Proofs((FOLDER / "proofs.json").read_bytes(), Once(1000, share=1000, opened=0)), "https://api.example"
     nonces = Nonces((FOLDER / "nonce.secret").read_bytes(), 3600)
     dpop = DPoP(proofs, origin)
     return {
-        "/unbound": guarded(validator, refuses_bound=True),
+        "/unbound": guarded(validator),
         "/dpop": guarded(validator, dpop=dpop),
         "/dpop-only": guarded(validator, dpop=DPoP(proofs, origin, only=True)),
         "/dpop-nonce": guarded(validator, dpop=DPoP(proofs, origin, nonces=nonces)),

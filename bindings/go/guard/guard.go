@@ -34,7 +34,6 @@ type guard struct {
 	validator Validator
 	schemes   fowharimu.Scheme
 	asked     []fowharimu.Asked // of each request
-	ofBearers []fowharimu.Asked // of one whose token is a bearer's
 	proofs    *Proofs
 	algs      string // of proofs
 	realm     string
@@ -80,16 +79,10 @@ func DPoP(proofs Proofs) Option {
 			g.schemes |= fowharimu.Bearer
 		}
 		g.proofs = &proofs
-		g.ofBearers = []fowharimu.Asked{fowharimu.Unbound()}
 	}
 }
 
 var origin = regexp.MustCompile(`^(?i:https?)://[A-Za-z0-9._~!$&'()*+,;=:\[\]%-]+$`)
-
-// RefuseBound refuses a token that is bound: else whoever stole it could use it (RFC 9449, section 7.2). With DPoP it is so in any case.
-func RefuseBound() Option {
-	return func(g *guard) { g.ofBearers = []fowharimu.Asked{fowharimu.Unbound()} }
-}
 
 // Realm is the realm that a request without a token is told: jwt without this. It panics for one that a quoted string can't have: a realm has printable
 // characters of ASCII, and neither quotation marks nor backslashes.
@@ -121,7 +114,8 @@ func ClaimsOf(c context.Context) (fowharimu.Claims, bool) {
 }
 
 // Bearer lets a request through where the token behind the scheme Bearer is accepted now; with DPoP one behind the scheme DPoP too, with its proof. Else it answers 400, 401 or 403, with
-// WWW-Authenticate (RFC 6750, section 3; RFC 9449, section 7.1), 503 where keys by URL are too old, and 500 where nothing can be said of the token.
+// WWW-Authenticate (RFC 6750, section 3; RFC 9449, section 7.1), 429 where the owner of what counts once has used up its share, 503 where keys by URL are too old or there is no
+// room for what counts once, and 500 where nothing can be said of the token. A bearer's token that is bound is refused.
 func Bearer(validator Validator, how ...Option) func(http.Handler) http.Handler {
 	chosen := guard{validator: validator, schemes: fowharimu.Bearer, realm: "jwt", tell: func(*http.Request, error) {}}
 	for _, choose := range how {
@@ -162,7 +156,8 @@ func (g *guard) validate(r *http.Request, token string, scheme fowharimu.Scheme,
 		return fowharimu.Claims{}, ErrForm
 	}
 	if scheme != fowharimu.DPoP {
-		return g.validator.ValidateWith(token, append(g.ofBearers[:len(g.ofBearers):len(g.ofBearers)], g.asked...)...)
+		// (else whoever stole it could use it: RFC 9449, section 7.2)
+		return g.validator.ValidateWith(token, append([]fowharimu.Asked{fowharimu.Unbound()}, g.asked...)...)
 	}
 	proof, err := g.proofs.of(r)
 	if err != nil {

@@ -117,6 +117,13 @@ static jint JNICALL proof_outcome(JNIEnv *env, jclass class, jint status, jint f
     return (jint)fow_proof_outcome((uint32_t)status, (uint32_t)fault);
 }
 
+static jint JNICALL taken_outcome(JNIEnv *env, jclass class, jboolean of_proof, jint status, jint taken)
+{
+    (void)env;
+    (void)class;
+    return (jint)fow_taken_outcome(of_proof != JNI_FALSE, (uint32_t)status, (uint32_t)taken);
+}
+
 static jboolean JNICALL quotable(JNIEnv *env, jclass class, jbyteArray given)
 {
     (void)class;
@@ -278,6 +285,7 @@ jint register_around(JNIEnv *env, jclass class)
         ROW("challenge", "(II[B[B[B)[B", challenge),
         ROW("nonce", "([BIJ)[B", nonce),
         ROW("proofOutcome", "(II)I", proof_outcome),
+        ROW("takenOutcome", "(ZII)I", taken_outcome),
         ROW("isQuotable", "([B)Z", quotable),
         ROW("renewalBegin", "([JJJJJJ)V", renewal_begin),
         ROW("renewalAsk", "([JJIJ[J)V", renewal_ask),

@@ -391,12 +391,12 @@ static fow_once *once_at(jlong once)
     return (fow_once *)(intptr_t)once;
 }
 
-static jlong JNICALL open_once(JNIEnv *env, jclass class, jint tokens)
+static jlong JNICALL open_once(JNIEnv *env, jclass class, jint tokens, jint share, jlong opened)
 {
     (void)env;
     (void)class;
     fow_once *once = calloc(1, sizeof *once);
-    if (once != NULL && fow_once_open(once, (size_t)tokens) == FOW_OK)
+    if (once != NULL && fow_once_open(once, (size_t)tokens, (size_t)share, (uint64_t)opened) == FOW_OK)
         return (jlong)(intptr_t)once;
     free(once);
     return 0;
@@ -554,22 +554,18 @@ static void JNICALL close_proofs(JNIEnv *env, jclass class, jlong proofs)
     free(proofs_at(proofs));
 }
 
-static jint JNICALL bound(JNIEnv *env, jclass class, jlong it, jintArray out)
+/* With no proof, where the address is 0. */
+static jint JNICALL shown_ways(JNIEnv *env, jclass class, jlong it, jlong proofs, jbyteArray der, jintArray out)
 {
     (void)class;
-    uint32_t how = FOW_BOUND;
-    uint32_t status = fow_bound(&at(it)->validator, &how);
-    jint said = (jint)how;
-    (*env)->SetIntArrayRegion(env, out, 0, 1, &said);
-    return (jint)status;
-}
-
-static jint JNICALL certificate_holds(JNIEnv *env, jclass class, jlong it, jbyteArray der)
-{
-    (void)class;
+    fow_possession none = FOW_POSSESSION_INIT;
     octets from = copied(env, der);
-    uint32_t status = from.at == NULL ? FOW_OUT_OF_MEMORY : fow_certificate_holds(&at(it)->validator, from.at, from.len);
+    uint32_t ways = FOW_BOUND_NOT, fault = FOW_NO_FAULT;
+    uint32_t status = from.at == NULL ? FOW_OUT_OF_MEMORY
+                                      : fow_shown(&at(it)->validator, proofs == 0 ? &none : proofs_at(proofs), from.at, from.len, &ways, &fault);
+    jint said[] = { (jint)ways, (jint)fault };
     free(from.at);
+    (*env)->SetIntArrayRegion(env, out, 0, 2, said);
     return (jint)status;
 }
 
@@ -606,7 +602,7 @@ JNIEXPORT jint JNICALL JNI_OnLoad(JavaVM *vm, void *reserved)
         ROW("deniedName", "(JJ)[B", denied_name),
         ROW("expectText", "(J[B[B[I)I", expect_text),
         ROW("expectHalfHash", "(JI[B[B[I)I", expect_half_hash),
-        ROW("openOnce", "(I)J", open_once),
+        ROW("openOnce", "(IIJ)J", open_once),
         ROW("takeOnce", "(JJJ[I)I", take_once),
         ROW("closeOnce", "(J)V", close_once),
         ROW("openProofs", "([B[I)J", open_proofs),
@@ -615,8 +611,7 @@ JNIEXPORT jint JNICALL JNI_OnLoad(JavaVM *vm, void *reserved)
         ROW("freshProof", "(J[BIJ)I", fresh_proof),
         ROW("proofAlgs", "(JI)[B", proof_algs),
         ROW("closeProofs", "(J)V", close_proofs),
-        ROW("bound", "(J[I)I", bound),
-        ROW("certificateHolds", "(J[B)I", certificate_holds),
+        ROW("shown", "(JJ[B[I)I", shown_ways),
         ROW("faultName", "(I)Ljava/lang/String;", fault_name),
         ROW("named", "(J[B[I)[B", named),
         ROW("soleIssuer", "(J)[B", sole_issuer),

@@ -192,7 +192,7 @@ final class Possessions {
                 continue; // (there is no access token, or the standard's own, which is none)
             }
             judged++;
-            try (Once once = new Once(1); Proofs proofs = new Proofs(table.policy, once)) {
+            try (Once once = new Once(1, 1, Instant.EPOCH); Proofs proofs = new Proofs(table.policy, once)) {
                 Tests.equal(row.name + ": " + said(() -> table.validator.validate(token, row.asking(proofs))), row.name + ": " + row.answer);
             }
         }
@@ -213,12 +213,12 @@ final class Possessions {
     private void once(Table table) throws Exception {
         Row good = table.good();
         Validator it = table.validator;
-        try (Once once = new Once(2); Proofs first = new Proofs(table.policy, once); Proofs second = new Proofs(table.policy, once)) {
+        try (Once once = new Once(2, 2, Instant.EPOCH); Proofs first = new Proofs(table.policy, once); Proofs second = new Proofs(table.policy, once)) {
             Tests.check(it.validate(good.token, good.asking(first)).contains("user"), "other claims");
             notTaken(() -> it.validate(good.token, good.asking(second).at(Instant.ofEpochSecond(good.now + 1))), "Seen");
         }
         // (a token that was taken leaves no room)
-        try (Once full = new Once(1); Proofs proofs = new Proofs(table.policy, full); Validator taking = new Validator(HS256, SECRET, full)) {
+        try (Once full = new Once(1, 1, Instant.EPOCH); Proofs proofs = new Proofs(table.policy, full); Validator taking = new Validator(HS256, SECRET, full)) {
             taking.validate(Tests.issued(taking, "{\"jti\":\"a\",\"exp\":" + (good.now + 100) + "}"), good.now);
             notTaken(() -> it.validate(good.token, good.asking(proofs)), "Full");
         }
@@ -231,7 +231,7 @@ final class Possessions {
     private void last(Table table) throws Exception {
         Row good = table.good();
         Validator it = table.validator;
-        try (Once once = new Once(1); Proofs proofs = new Proofs(table.policy, once); Access denies = new Access("{\"scopes\":[\"read\"]}")) {
+        try (Once once = new Once(1, 1, Instant.EPOCH); Proofs proofs = new Proofs(table.policy, once); Access denies = new Access("{\"scopes\":[\"read\"]}")) {
             Asking asking = good.asking(proofs);
             Tests.equal(Tests.refused(() -> it.validate(good.token, asking.text("sub", "nobody"))).kind(), Refused.Kind.NOT_EXPECTED);
             Tests.thrown(Denied.class, () -> it.validate(good.token, asking.access(denies)));
@@ -248,7 +248,7 @@ final class Possessions {
     private void countOnce(Table table) throws Exception {
         Key client = new Key();
         long now = table.good().now;
-        try (Once once = new Once(4); Proofs proofs = new Proofs(table.policy, once); Validator it = new Validator(HS256, SECRET, once)) {
+        try (Once once = new Once(4, 4, Instant.EPOCH); Proofs proofs = new Proofs(table.policy, once); Validator it = new Validator(HS256, SECRET, once)) {
             String token = it.issue("{\"jti\":\"a\",\"exp\":" + (now + 100) + ",\"cnf\":{\"jkt\":\"" + client.thumbprint() + "\"}}", new Issuing());
             Asking at = table.good().at();
             notHeld(() -> it.validate(token, at.proof(new Proof(proofs, client.proof(token, now, ""), "PUT", THINGS))), "OtherMethod");
@@ -261,7 +261,7 @@ final class Possessions {
         Key client = new Key();
         long now = table.good().now;
         Validator it = table.validator;
-        try (Once once = new Once(4); Proofs proofs = new Proofs(table.policy, once)) {
+        try (Once once = new Once(4, 4, Instant.EPOCH); Proofs proofs = new Proofs(table.policy, once)) {
             String token = it.issue("{\"cnf\":{\"jkt\":\"" + client.thumbprint() + "\"}}", new Issuing());
             Asking at = table.good().at();
             Proof proof = new Proof(proofs, client.proof(token, now, ",\"nonce\":\"n-1\""), "GET", THINGS + "?page=2#end");
@@ -292,7 +292,7 @@ final class Possessions {
             Tests.equal(nonces.at(Instant.ofEpochSecond(row[0])), Base64.getUrlEncoder().withoutPadding().encodeToString(digest));
         }
         Row row = table.rows.stream().filter(it -> it.name.equals("nonce-by-time")).findFirst().orElseThrow();
-        try (Once once = new Once(4); Proofs proofs = new Proofs(table.policy, once)) {
+        try (Once once = new Once(4, 4, Instant.EPOCH); Proofs proofs = new Proofs(table.policy, once)) {
             Nonces others = new Nonces(secret(33), Duration.ofMinutes(5));
             notHeld(() -> table.validator.validate(row.token, row.at().proof(row.by(proofs).nonces(others))), "OtherNonce");
             notHeld(() -> table.validator.validate(row.token, row.at().proof(table.good().by(proofs).nonces(nonces))), "OtherNonce");
@@ -330,7 +330,8 @@ final class Possessions {
             notHeld(() -> it.validate(token, new Asking().certificate(other)), "OtherCertificate");
         }
         notHeld(() -> it.validate(Tests.issued(it, "{}"), asking), "OtherCertificate");
-        notHeld(() -> it.validate(table.good().token, asking), "OtherCertificate");
+        notHeld(() -> it.validate(table.good().token, asking), "OtherKey");
+        notHeld(() -> it.validate(Tests.issued(it, "{\"cnf\":{}}"), asking), "Unknown");
     }
 
     /** The tokens of a profile, by one validator, by keys by URL and by several issuers. */
@@ -375,7 +376,7 @@ final class Possessions {
         AtomicInteger fetches = new AtomicInteger();
         HttpServer server = Tests.serving(Tests.octets("{\"keys\":[" + issuer.jwk() + "]}"), fetches);
         byte[] policy = Tests.octets("{\"algs\":[\"ES256\"]}");
-        try (Once once = new Once(2); Proofs proofs = new Proofs(table.policy, once);
+        try (Once once = new Once(2, 2, Instant.EPOCH); Proofs proofs = new Proofs(table.policy, once);
                 RemoteKeys it = new RemoteKeys(policy, url(server), Tests.fetching(List.of(Duration.ofDays(1), Duration.ZERO, Duration.ofDays(2), Duration.ofSeconds(5))))) {
             Asking at = new Asking().at(NOW);
             String changed = proof.replaceFirst(".....$", "AAAAA");
@@ -399,7 +400,7 @@ final class Possessions {
             {"{\"algs\":[\"ES256\"],\"more\":1}", "Member", "more"},
             {"", "Json", ""},
         };
-        try (Once once = new Once(1)) {
+        try (Once once = new Once(1, 1, Instant.EPOCH)) {
             for (String[] row : rows) {
                 Refused refusal = Tests.refused(() -> new Proofs(Tests.octets(row[0]), once));
                 Tests.equal(List.of(refusal.kind(), refusal.fault(), refusal.about().orElse("")), List.of(Refused.Kind.POLICY, row[1], row[2]));
@@ -412,7 +413,7 @@ final class Possessions {
     /** Nothing is left out by mistake. */
     private void mistakes(Table table) throws Exception {
         Row good = table.good();
-        try (Once once = new Once(1); Proofs proofs = new Proofs(table.policy, once)) {
+        try (Once once = new Once(1, 1, Instant.EPOCH); Proofs proofs = new Proofs(table.policy, once)) {
             for (Callable<?> it : List.<Callable<?>>of(
                     () -> new Proof(null, good.proof, "GET", THINGS), () -> new Proof(proofs, null, "GET", THINGS), () -> new Proof(proofs, good.proof, null, THINGS),
                     () -> new Proof(proofs, good.proof, "GET", null), () -> good.by(proofs).nonce(null), () -> new Asking().proof(null),
@@ -424,7 +425,7 @@ final class Possessions {
 
     private void closing(Table table) throws Exception {
         Row good = table.good();
-        Once once = new Once(1);
+        Once once = new Once(1, 1, Instant.EPOCH);
         Proofs closed = new Proofs(table.policy, once);
         try (Proofs proofs = new Proofs(table.policy, once)) {
             for (int n = 0; n < 2; n++) {
@@ -437,7 +438,7 @@ final class Possessions {
     }
 
     private void freeing(Table table) throws Exception {
-        try (Once once = new Once(1)) {
+        try (Once once = new Once(1, 1, Instant.EPOCH)) {
             for (int n = 0; n < 40_000; n++) {
                 new Proofs(table.policy, once);
                 if (n % 1_000 == 0) {
@@ -451,7 +452,7 @@ final class Possessions {
     /** Of many threads one has its proof taken, and each is told what is wrong with another. */
     private void threads(Table table) throws Exception {
         Row good = table.good();
-        try (Once once = new Once(8); Proofs proofs = new Proofs(table.policy, once)) {
+        try (Once once = new Once(8, 8, Instant.EPOCH); Proofs proofs = new Proofs(table.policy, once)) {
             Asking other = good.at().proof(new Proof(proofs, good.proof, good.method, "https://a/"));
             List<Integer> held = Tests.together(8, () -> {
                 int count = 0;
@@ -474,7 +475,7 @@ final class Possessions {
     private void closingMeanwhile(Table table) throws Exception {
         Row good = table.good();
         for (int n = 0; n < 20; n++) {
-            try (Once once = new Once(8)) {
+            try (Once once = new Once(8, 8, Instant.EPOCH)) {
                 Proofs proofs = new Proofs(table.policy, once);
                 AtomicInteger closers = new AtomicInteger();
                 Tests.together(4, () -> {

@@ -148,7 +148,7 @@ final class Tests {
             thrown(NullPointerException.class, it);
         }
         byte[] token = ofLogins("tokens/good.jwt");
-        try (Once once = new Once(10); Validator it = new Validator(ofLogins("policy.json"), ofLogins("keys.json"), once)) {
+        try (Once once = new Once(10, 10, Instant.EPOCH); Validator it = new Validator(ofLogins("policy.json"), ofLogins("keys.json"), once)) {
             thrown(IllegalArgumentException.class, () -> it.validate(token, new Asking().text("nonce", "\ud800").at(NOW)));
             thrown(IllegalArgumentException.class, () -> it.validate(token, new Asking().text("\ud800", NONCE).at(NOW)));
             thrown(NullPointerException.class, () -> it.validate(token, (Asking) null));
@@ -183,7 +183,7 @@ final class Tests {
 
     /** A token is let in once; what judges, is denied or is refused takes nothing. */
     private void once() throws Exception {
-        try (Once once = new Once(10); Validator it = taking(once); Access denies = new Access("{\"scopes\":[\"read\"]}"); Access grants = new Access("{}")) {
+        try (Once once = new Once(10, 10, Instant.EPOCH); Validator it = taking(once); Access denies = new Access("{\"scopes\":[\"read\"]}"); Access grants = new Access("{}")) {
             byte[] token = issued(it, "{\"iss\":\"i\",\"jti\":\"a\",\"exp\":1000}");
             check(it.judge(token, 900).accepted(), "it isn't accepted");
             thrown(Denied.class, () -> it.validate(token, 900, denies));
@@ -197,7 +197,7 @@ final class Tests {
     }
 
     private void whyNotTaken() throws Exception {
-        try (Once once = new Once(1); Validator it = taking(once)) {
+        try (Once once = new Once(1, 1, Instant.EPOCH); Validator it = taking(once)) {
             notTaken(it, issued(it, "{\"iss\":\"i\",\"exp\":1000}"), 900, "NoId");
             notTaken(it, issued(it, "{\"iss\":\"i\",\"jti\":\"a\"}"), 900, "NoEnd");
             notTaken(it, issued(it, "{\"jti\":\"a\",\"exp\":1000,\"iat\":961}"), 900, "Ahead");
@@ -214,7 +214,7 @@ final class Tests {
             thrown(IllegalArgumentException.class, () -> new Once(tokens));
         }
         thrown(NullPointerException.class, () -> taking(null));
-        Once once = new Once(Integer.MAX_VALUE);
+        Once once = new Once(Integer.MAX_VALUE, Integer.MAX_VALUE, Instant.EPOCH);
         try (Validator first = taking(once); Validator second = taking(once)) {
             byte[] token = issued(first, "{\"jti\":\"a\",\"exp\":1000}");
             first.validate(token, 900);
@@ -229,7 +229,7 @@ final class Tests {
     /** Of many threads one is let in. */
     private void onceByThreads() throws Exception {
         AtomicInteger letIn = new AtomicInteger();
-        try (Once once = new Once(10); Validator it = taking(once)) {
+        try (Once once = new Once(10, 10, Instant.EPOCH); Validator it = taking(once)) {
             byte[] token = issued(it, "{\"jti\":\"a\",\"exp\":1000}");
             List<Thread> threads = new ArrayList<>();
             for (int n = 0; n < 8; n++) {
@@ -832,7 +832,7 @@ final class Tests {
             String message = "fowharimu: the library another has interface " + loaded + ", and this package was made for " + (loaded - 1);
             equal(error.getMessage(), message);
             equal(thrown(UnsatisfiedLinkError.class, () -> new Access("{}")).getMessage(), message);
-            equal(thrown(UnsatisfiedLinkError.class, () -> new Once(1)).getMessage(), message);
+            equal(thrown(UnsatisfiedLinkError.class, () -> new Once(1, 1, Instant.EPOCH)).getMessage(), message);
         }
         passed++;
     }

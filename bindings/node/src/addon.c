@@ -766,19 +766,22 @@ static napi_value close_access(napi_env env, napi_callback_info info)
     return NULL;
 }
 
-/* openOnce(tokens): a memory of so many tokens that count once. index.js has looked at the number. */
+/* openOnce(tokens, share, opened): a memory of so many tokens that count once, of each owner's at most that share, opened at that moment. index.js has looked at the
+ * numbers. */
 static napi_value open_once(napi_env env, napi_callback_info info)
 {
-    napi_value given[1], result = NULL;
-    uint32_t tokens = 0;
-    size_t count = 1;
+    napi_value given[3], result = NULL;
+    uint32_t tokens = 0, share = 0;
+    int64_t opened = 0;
+    size_t count = 3;
     napi_get_cb_info(env, info, &count, given, NULL, NULL);
-    if (count < 1 || napi_get_value_uint32(env, given[0], &tokens) != napi_ok)
+    if (count < 3 || napi_get_value_uint32(env, given[0], &tokens) != napi_ok || napi_get_value_uint32(env, given[1], &share) != napi_ok
+        || !read_moment(env, given[2], &opened) || opened < 0)
         return mistake(env, "a number is wanted");
     fow_once *it = calloc(1, sizeof *it);
     if (it == NULL)
         return lack_memory(env);
-    if (fow_once_open(it, tokens) == FOW_OK && napi_create_external(env, it, finalize_once, NULL, &result) == napi_ok)
+    if (fow_once_open(it, tokens, share, (uint64_t)opened) == FOW_OK && napi_create_external(env, it, finalize_once, NULL, &result) == napi_ok)
         return result;
     fow_once_close(it);
     free(it);
@@ -955,34 +958,31 @@ static napi_value close_proofs(napi_env env, napi_callback_info info)
     return NULL;
 }
 
-/* bound(validator): how the token that was accepted last is bound, by the sum of enum fow_binding. Everything else is thrown. */
-static napi_value bound(napi_env env, napi_callback_info info)
+/* shown(validator, proofs, der): how the token that was accepted last is bound, by the sum of enum fow_binding, where each way is shown by the proof that is kept and this
+ * certificate; else the number of the fault. `proofs` is null where there is none, and an empty `der` is none. Everything else is thrown. */
+static napi_value shown(napi_env env, napi_callback_info info)
 {
-    napi_value given[1];
-    uint32_t how = FOW_BOUND;
-    held *it = arguments(env, info, 1, given);
-    if (it == NULL)
-        return NULL;
-    uint32_t status = fow_bound(&it->validator, &how);
-    if (status == FOW_OK)
-        return number(env, how);
-    return status == FOW_OUT_OF_MEMORY ? lack_memory(env) : fail(env, NULL, "no token is accepted");
-}
-
-/* certificateHolds(validator, der): whether the token that was accepted last is bound to this certificate. Everything else is thrown. */
-static napi_value certificate_holds(napi_env env, napi_callback_info info)
-{
-    napi_value given[2], result = NULL;
+    napi_value given[3];
     octets der;
-    held *it = arguments(env, info, 2, given);
-    if (it == NULL || !read_octets(env, given[1], &der))
+    uint32_t ways = FOW_BOUND_NOT, fault = FOW_NO_FAULT;
+    napi_valuetype kind = napi_undefined;
+    fow_possession none = FOW_POSSESSION_INIT, *possession = &none;
+    held *it = arguments(env, info, 3, given);
+    if (it == NULL || napi_typeof(env, given[1], &kind) != napi_ok)
         return NULL;
-    uint32_t status = fow_certificate_holds(&it->validator, der.at, der.len);
+    if (kind != napi_null) {
+        proofs *kept = proofs_of(env, given[1]);
+        if (kept == NULL)
+            return NULL;
+        possession = &kept->possession;
+    }
+    if (!read_octets(env, given[2], &der))
+        return NULL;
+    uint32_t status = fow_shown(&it->validator, possession, der.at, der.len, &ways, &fault);
     free(der.at);
-    if (status != FOW_OK && status != FOW_NOT_EXPECTED)
-        return status == FOW_OUT_OF_MEMORY ? lack_memory(env) : fail(env, NULL, "no token is accepted");
-    napi_get_boolean(env, status == FOW_OK, &result);
-    return result;
+    if (status == FOW_OK || status == FOW_REFUSED)
+        return number(env, status == FOW_OK ? ways : fault);
+    return status == FOW_OUT_OF_MEMORY ? lack_memory(env) : fail(env, NULL, "no token is accepted");
 }
 
 static napi_value fault_name(napi_env env, napi_callback_info info)
@@ -1035,7 +1035,7 @@ NAPI_MODULE_INIT()
         { "named", named }, { "soleIssuer", sole_issuer }, { "tokenLimit", token_limit }, { "isPublic", is_public }, { "textMember", text_member },
         { "openOnce", open_once }, { "taken", taken }, { "closeOnce", close_once },
         { "openProofs", open_proofs }, { "proofFault", proof_fault }, { "proofTaken", proof_taken }, { "proofFresh", proof_fresh }, { "proofAlgs", proof_algs }, { "closeProofs", close_proofs },
-        { "bound", bound }, { "certificateHolds", certificate_holds },
+        { "shown", shown },
     };
     for (size_t i = 0; i < sizeof all / sizeof *all; i++)
         put(env, exports, &all[i]);

@@ -181,6 +181,19 @@ static napi_value proof_outcome(napi_env env, napi_callback_info info)
     return number(env, fow_proof_outcome(status, fault));
 }
 
+/* takenOutcome(ofProof, status, taken): the number of enum fow_outcome of what was said of a token that counts once, or of a proof where ofProof isn't 0. */
+static napi_value taken_outcome(napi_env env, napi_callback_info info)
+{
+    napi_value given[MOST_ARGUMENTS];
+    uint32_t of_proof = 0, status = FOW_NOT_OPEN, taken = FOW_TAKEN_NOTHING;
+    if (!arguments(env, info, 3, given))
+        return NULL;
+    napi_get_value_uint32(env, given[0], &of_proof);
+    napi_get_value_uint32(env, given[1], &status);
+    napi_get_value_uint32(env, given[2], &taken);
+    return number(env, fow_taken_outcome(of_proof, status, taken));
+}
+
 /* quotable(text): whether a realm or scopes can be quoted as they are. */
 static napi_value quotable(napi_env env, napi_callback_info info)
 {
@@ -377,7 +390,7 @@ static napi_value next_step(napi_env env, napi_callback_info info)
 
 const named_call around[] = {
     { "credentials", credentials }, { "replyTo", reply_to }, { "challenge", challenge }, { "quotable", quotable },
-    { "nonce", nonce }, { "proofOutcome", proof_outcome },
+    { "nonce", nonce }, { "proofOutcome", proof_outcome }, { "takenOutcome", taken_outcome },
     { "renewalBegin", renewal_begin }, { "renewalAsk", renewal_ask }, { "renewalTook", renewal_took }, { "renewalFailed", renewal_failed },
     { "renewalWait", renewal_wait }, { "urlOf", url_of }, { "redirected", redirected }, { "keysUrl", keys_url },
     { "metadataUrl", metadata_url }, { "nextStep", next_step }, { NULL, NULL },

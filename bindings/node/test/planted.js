@@ -8,6 +8,6 @@
 require('node:dns');
 Object.assign(Object.prototype, {
   access: 'planted', expected: 'planted', hashes: 'planted', holder: 'planted', dpop: 'planted', uri: 'planted', nonce: 'planted', now: 1300819379, remember: 'planted', tokens: -1, octets: -1, key: 7, alg: 'planted', form: 'planted', typ: 7,
-  rule: 'planted', realm: '"', hidesToken: 'planted', refusesBound: 'planted', origin: 'planted', proofs: 'planted', nonces: 'planted', only: 'planted', originalUrl: '/planted', token: 'planted', scheme: 1, onRefusal: 'planted', refreshAfter: -1, cooldown: -1, maxAge: -1, allowHttp: 'planted', ca: '', onFetch: 'planted',
+  rule: 'planted', realm: '"', hidesToken: 'planted', origin: 'planted', proofs: 'planted', nonces: 'planted', only: 'planted', originalUrl: '/planted', token: 'planted', scheme: 1, onRefusal: 'planted', refreshAfter: -1, cooldown: -1, maxAge: -1, allowHttp: 'planted', ca: '', onFetch: 'planted',
   timeout: Object.assign([], { warned: true }),
 });

@@ -19,7 +19,7 @@ const NOW = 1300819379, THINGS = 'https://api.example/things';
 function table() {
   const [first, ...rows] = fs.readFileSync(TABLE, 'utf8').trimEnd().split('\n').map((line) => JSON.parse(line));
   const validator = new fow.Validator(first.access_policy, first.access_keys);
-  return { policy: first.policy, rows, good: rows[0], validator, proofs: (memory = 1) => new fow.Proofs(first.policy, memory) };
+  return { policy: first.policy, rows, good: rows[0], validator, proofs: (memory = new fow.Once(1, { opened: 0 })) => new fow.Proofs(first.policy, memory) };
 }
 
 /** The proof of a row. */
@@ -40,7 +40,7 @@ function said(call) {
 
 /** A call whose sender hasn't shown the key, for this reason. */
 function notHeld(call, fault) {
-  const meaning = meanings.proof[fault] ?? meanings.token[fault];
+  const meaning = meanings.proof[fault] ?? meanings.binding[fault] ?? meanings.token[fault];
   const message = `the sender of the token doesn't hold its key: ${fault}${meaning === undefined ? '' : ` (${meaning})`}`;
   assert.throws(call, { name: 'NotHeld', fault, message });
   assert.throws(call, fow.TokenRefused);
@@ -65,13 +65,13 @@ function testTable() {
 }
 
 function testOnce() {
-  const { good, validator, proofs } = table(), memory = new fow.Once(2), now = good.now;
+  const { good, validator, proofs } = table(), memory = new fow.Once(2, { share: 2, opened: 0 }), now = good.now;
   assert.strictEqual(validator.validate(good.token, { holder: proofOf(good, proofs(memory)), now }).sub, 'user');
   assert.throws(() => validator.validate(good.token, { holder: proofOf(good, proofs(memory)), now: now + 1 }), SEEN);
   const text = JSON.parse(validator.validateText(good.token, { holder: proofOf(good, proofs()), now: BigInt(now) }));
   assert.strictEqual(text.sub, 'user');
   // (a token that was taken leaves no room)
-  const full = new fow.Once(1), taking = new fow.Validator({ algs: ['HS256'] }, SECRET, { once: full });
+  const full = new fow.Once(1, { share: 1, opened: 0 }), taking = new fow.Validator({ algs: ['HS256'] }, SECRET, { once: full });
   taking.validate(taking.issue({ jti: 'a', exp: now + 100 }), now);
   assert.throws(() => validator.validate(good.token, { holder: proofOf(good, proofs(full)), now }), { name: 'NotTaken', fault: 'Full' });
 }
@@ -107,7 +107,7 @@ function newKey() {
 }
 
 function testTokensThatCountOnce() {
-  const { policy, good } = table(), memory = new fow.Once(4), client = newKey(), now = good.now;
+  const { policy, good } = table(), memory = new fow.Once(4, { share: 4, opened: 0 }), client = newKey(), now = good.now;
   const validator = new fow.Validator({ algs: ['HS256'] }, SECRET, { once: memory }), proofs = new fow.Proofs(policy, memory);
   const token = validator.issue({ jti: 'a', exp: now + 100, cnf: { jkt: client.thumbprint } });
   const show = (method) => validator.validate(token, { holder: new fow.Proof(proofs, { dpop: client.proof(token, now), method, uri: THINGS }), now });
@@ -117,7 +117,7 @@ function testTokensThatCountOnce() {
 }
 
 function testNonces() {
-  const { good, validator, proofs } = table(), client = newKey(), by = proofs(4), now = good.now;
+  const { good, validator, proofs } = table(), client = newKey(), by = proofs(new fow.Once(4, { share: 4, opened: 0 })), now = good.now;
   const token = validator.issue({ cnf: { jkt: client.thumbprint } }), dpop = client.proof(token, now, { nonce: 'n-1' });
   const show = (request) => validator.validate(token, { holder: new fow.Proof(by, { dpop, method: 'GET', uri: THINGS, ...request }), now });
   for (const nonce of ['n-2', 'n-', '\ud800', new Uint8Array(1)]) notHeld(() => show({ nonce }), 'OtherNonce');
@@ -141,9 +141,12 @@ function testCertificates() {
   const token = validator.issue({ sub: 'user', cnf: { 'x5t#S256': digest } }), given = Buffer.from(der), copied = new fow.Certificate(given);
   given.fill(0);
   for (const holder of [new fow.Certificate(der), copied]) assert.strictEqual(validator.validate(token, { holder }).sub, 'user');
-  for (const [bound, other] of [[token, Buffer.from('a certificate.')], [token, Buffer.alloc(0)], [validator.issue({ sub: 'user' }), der], [good.token, der]]) {
+  for (const [bound, other] of [[token, Buffer.from('a certificate.')], [token, Buffer.alloc(0)], [validator.issue({ sub: 'user' }), der]]) {
     notHeld(() => validator.validate(bound, { holder: new fow.Certificate(other) }), 'OtherCertificate');
   }
+  const both = validator.issue({ cnf: { jkt: 'a', 'x5t#S256': digest } });
+  for (const bound of [good.token, both]) notHeld(() => validator.validate(bound, { holder: new fow.Certificate(der) }), 'OtherKey');
+  notHeld(() => validator.validate(validator.issue({ cnf: {} }), { holder: new fow.Certificate(der) }), 'Unknown');
 }
 
 /** Serves a key set while this is done, and says how often it was asked. */
@@ -181,7 +184,7 @@ async function testProfile() {
 /** Keys by URL ask for proofs, and fetch no keys for the sake of one. */
 async function testByUrl() {
   const { RemoteKeys } = require('../remote.js'), { policy } = table(), issuer = newKey(), client = newKey();
-  const token = issuer.sign({ alg: 'ES256' }, { sub: 'user', cnf: { jkt: client.thumbprint } }), proofs = new fow.Proofs(policy, 2), dpop = client.proof(token, NOW);
+  const token = issuer.sign({ alg: 'ES256' }, { sub: 'user', cnf: { jkt: client.thumbprint } }), proofs = new fow.Proofs(policy, new fow.Once(2, { opened: 0 })), dpop = client.proof(token, NOW);
   const count = await serving(JSON.stringify({ keys: [issuer.jwk] }), async (url) => {
     const keys = await RemoteKeys.open({ algs: ['ES256'] }, url, { allowHttp: true });
     const show = (it) => keys.validate(token, { holder: new fow.Proof(proofs, { dpop: it, method: 'GET', uri: THINGS }), now: NOW });
@@ -251,7 +254,7 @@ function testPlanted() {
 }
 
 function testClosing() {
-  const { good, validator, proofs } = table(), memory = new fow.Once(2), by = proofs(memory), holder = proofOf(good, by), now = good.now;
+  const { good, validator, proofs } = table(), memory = new fow.Once(2, { share: 2, opened: 0 }), by = proofs(memory), holder = proofOf(good, by), now = good.now;
   for (let n = 0; n < 2; n++) by.close();
   assert.throws(() => validator.validate(good.token, { holder, now }), fow.Closed);
   const other = proofOf(good, proofs(memory));
@@ -260,7 +263,7 @@ function testClosing() {
 }
 
 async function testFreeing() {
-  const { policy } = table(), memory = new fow.Once(1), before = process.memoryUsage().rss;
+  const { policy } = table(), memory = new fow.Once(1, { share: 1, opened: 0 }), before = process.memoryUsage().rss;
   for (let n = 0; n < 20000; n++) {
     new fow.Proofs(policy, memory);
     if (n % 100 === 0) await new Promise((done) => setImmediate(done));
@@ -270,7 +273,7 @@ async function testFreeing() {
 
 /** Shows the good proof many times, and says how often it is taken, and refuses another as often. */
 function showMany() {
-  const { good, validator, proofs } = table(), by = proofs(2);
+  const { good, validator, proofs } = table(), by = proofs(new fow.Once(2, { share: 2, opened: 0 }));
   let held = 0;
   for (let n = 0; n < 50; n++) {
     notHeld(() => validator.validate(good.token, { holder: proofOf({ ...good, uri: 'https://a/' }, by), now: good.now }), 'OtherUri');
@@ -337,19 +340,20 @@ function testNonceThatIsntAnswered() {
 /** A guard holds a proof against the path that the client wrote, whatever a router made of it, and whatever a prototype has under its names. */
 function testGuardedPaths() {
   const { guard } = require('../guard.js'), { validator, proofs } = table(), client = newKey(), origin = 'https://api.example';
-  const token = validator.issue({ cnf: { jkt: client.thumbprint } }), guarding = guard(validator, { dpop: { proofs: proofs(20), origin } });
+  const token = validator.issue({ cnf: { jkt: client.thumbprint } }), guarding = guard(validator, { dpop: { proofs: proofs(new fow.Once(20, { share: 20, opened: 0 })), origin } });
   const said = (target, path) => {
     const proof = client.proof(token, Math.floor(Date.now() / 1000), { htu: `${origin}${path}` }), response = { setHeader() {}, end() {} };
     const request = { rawHeaders: ['Authorization', `DPoP ${token}`, 'DPoP', proof], headers: {}, method: 'GET', ...target };
     return guarding(request, response, (error) => error ?? 'let in') ?? response.statusCode;
   };
   for (const [target, path] of [
-    [{ url: '/a' }, '/a'], [{ url: '/a?b=/c#d' }, '/a'], [{ url: '/b', originalUrl: '/a/b?c' }, '/a/b'], [{ url: '/a%2Fb' }, '/a%2fb'],
-    [{ url: '/a#b' }, '/a%23b'], [{ url: '//a' }, '//a'], [{ url: '*' }, '/*'],
+    [{ url: '/a' }, '/a'], [{ url: '/a?b=/c#d' }, '/a'], [{ url: '/b', originalUrl: '/a/b?c' }, '/a/b'],
+    [{ url: '/a#b' }, '/a%23b'], [{ url: '*' }, '/*'],
   ]) assert.strictEqual(said(target, path), 'let in', target.url);
   for (const [target, path] of [
-    [{ url: '/b', originalUrl: '/a/b' }, '/b'], [{ url: '/a#b' }, '/a'], [{ url: '/a%2Fb' }, '/a/b'], [{ url: '//a' }, '/a'], [{ url: 'http://evil.example/a' }, '/a'], [{ url: '/a' }, '/planted'],
+    [{ url: '/b', originalUrl: '/a/b' }, '/b'], [{ url: '/a#b' }, '/a'], [{ url: '/a' }, '/planted'],
   ]) assert.strictEqual(said(target, path), 401, target.url);
+  for (const url of ['/a%2Fb', '//a', '/a/../b', 'http://evil.example/a']) assert.strictEqual(said({ url }, url), 400, url);
 }
 
 /** A guard says of a request that shows no one token, or no one proof, that it doesn't, and asks its validator nothing. */

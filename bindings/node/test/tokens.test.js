@@ -598,7 +598,7 @@ function testIssuing() {
 }
 
 /** A validator that takes tokens, which it issues too. */
-const takingIn = (once) => new fow.Validator({ algs: ['HS256'], leeway: 60 }, read(HMAC, 'keys'), { once });
+const takingIn = (once) => new fow.Validator({ algs: ['HS256'], leeway: 60 }, read(HMAC, 'keys'), { once: once === 10 ? new fow.Once(once, { opened: 0 }) : once });
 
 /** An accepted token that isn't taken, for this reason. */
 function notTaken(validator, token, now, fault) {
@@ -625,7 +625,7 @@ function testOnce() {
 }
 
 function testWhyNotTaken() {
-  const validator = takingIn(new fow.Once(1)), issue = (claims) => validator.issue(claims);
+  const validator = takingIn(new fow.Once(1, { opened: 0 })), issue = (claims) => validator.issue(claims);
   notTaken(validator, issue({ iss: 'i', exp: 1000 }), 900, 'NoId');
   notTaken(validator, issue({ iss: 'i', jti: 'a' }), 900, 'NoEnd');
   notTaken(validator, issue({ jti: 'a', exp: 1000, iat: 961 }), 900, 'Ahead');
@@ -637,7 +637,7 @@ function testWhyNotTaken() {
 
 /** Validators share a memory, and what is none is refused: one that is undefined would take nothing. */
 function testMemories() {
-  const once = new fow.Once(2 ** 32 - 1), [first, second] = [takingIn(once), takingIn(once)], token = first.issue({ jti: 'a', exp: 1000 });
+  const once = new fow.Once(2 ** 32 - 1, { opened: 0 }), [first, second] = [takingIn(once), takingIn(once)], token = first.issue({ jti: 'a', exp: 1000 });
   first.validate(token, 900);
   notTaken(second, token, 900, 'Seen');
   for (const it of [undefined, null, true, '10', 10n, {}, fow.Once, Object.create(fow.Once.prototype), structuredClone(once)]) assert.throws(() => takingIn(it), TypeError);
@@ -674,7 +674,7 @@ async function testOnceByUrl() {
   await once(server, 'listening');
   const url = `http://127.0.0.1:${server.address().port}/keys`;
   try {
-    const keys = await RemoteKeys.open(policy, url, { allowHttp: true, once: 10 });
+    const keys = await RemoteKeys.open(policy, url, { allowHttp: true, once: new fow.Once(10, { opened: 0 }) });
     await keys.validate(token, NOW);
     assert.ok(await keys.refresh());
     await assert.rejects(keys.validate(token, NOW), { name: 'NotTaken', fault: 'Seen' });
@@ -687,7 +687,7 @@ async function testOnceByUrl() {
 
 /** A guard answers a token that isn't taken as one that isn't accepted. */
 function testGuardOnce() {
-  const { guard } = require('../guard.js'), validator = takingIn(10), said = [];
+  const { guard } = require('../guard.js'), validator = takingIn(new fow.Once(10, { opened: 0 })), said = [];
   const token = validator.issue({ jti: 'a', exp: Math.floor(Date.now() / 1000) + 600 });
   for (let n = 0; n < 2; n++) {
     const headers = {}, response = { setHeader: (name, value) => { headers[name] = value; }, end() { said.push([this.statusCode, headers['WWW-Authenticate']]); } };
@@ -742,7 +742,7 @@ function testHalfHashes() {
 
 /** What is expected is never nothing by mistake, and what isn't expected isn't taken. */
 function testExpectedByMistake() {
-  const validator = loginOf({ once: 10 }), token = loginToken('good'), texts = [undefined, null, 'n', ['n'], 7, new Map([['nonce', 'n']])];
+  const validator = loginOf({ once: new fow.Once(10, { opened: 0 }) }), token = loginToken('good'), texts = [undefined, null, 'n', ['n'], 7, new Map([['nonce', 'n']])];
   for (const name of ['expected', 'hashes']) {
     for (const it of texts) assert.throws(() => validator.validate(token, { [name]: it, now: NOW }), TypeError);
     for (const it of [undefined, null, 7, ['n'], {}, new Uint16Array(1)]) assert.throws(() => validator.validate(token, { [name]: { nonce: it }, now: NOW }), TypeError);

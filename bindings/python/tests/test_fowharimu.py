@@ -35,6 +35,7 @@ from fowharimu import (
     NotExpected,
     NotTaken,
     Once,
+    OnceEntry,
     OnceStore,
     PolicyRefused,
     SignatureRefused,
@@ -163,7 +164,7 @@ class Expecting(unittest.TestCase):
 
     def test_what_is_expected_is_asked_before_a_token_is_taken(self) -> None:
         documents = (HMAC.with_suffix(".policy").read_bytes(), HMAC.with_suffix(".keys").read_bytes())
-        with Validator(*documents, once=2) as validator:
+        with Validator(*documents, once=Once(2, opened=0)) as validator:
             token = validator.issue({"iss": "joe", "jti": "1", "nonce": "n", "exp": NOW + 9})
             with self.assertRaises(NotExpected):
                 validator.validate(token, NOW, expected=Expected({"nonce": "m"}))
@@ -197,7 +198,8 @@ class Taking(unittest.TestCase):
 
     def taking(self, once: Union[Once, OnceStore, int] = 10) -> Validator:
         """A validator that takes so many tokens, which it issues too."""
-        return Validator({"algs": ["HS256"], "leeway": 60}, HMAC.with_suffix(".keys").read_bytes(), once=once)
+        memory = Once(once, opened=0) if isinstance(once, int) else once
+        return Validator({"algs": ["HS256"], "leeway": 60}, HMAC.with_suffix(".keys").read_bytes(), once=memory)
 
     def refused(self, validator: Validator, token: str, now: int, fault: str) -> None:
         """That an accepted token isn't taken, for this reason."""
@@ -213,7 +215,7 @@ class Taking(unittest.TestCase):
         for folder, token, said in once:
             octets, rule = (folder / f"tokens/{token}.jwt").read_bytes(), folder / "access.json"
             access = Access(rule.read_bytes()) if rule.exists() else NO_RULE
-            with self.subTest(folder.name), Validator((folder / "policy.json").read_bytes(), (folder / "keys.json").read_bytes(), once=8) as validator:
+            with self.subTest(folder.name), Validator((folder / "policy.json").read_bytes(), (folder / "keys.json").read_bytes(), once=Once(8, opened=0)) as validator:
                 validator.validate(octets, NOW, access)
                 with self.assertRaises(NotTaken) as caught:
                     validator.validate(octets, NOW, access)
@@ -222,25 +224,25 @@ class Taking(unittest.TestCase):
     def test_a_store_of_the_applications_own(self) -> None:
         class Store:
             def __init__(self) -> None:
-                self.held: Dict[bytes, int] = {}
+                self.held: Dict[bytes, OnceEntry] = {}
 
-            def take(self, mark: bytes, until: int) -> Any:
-                return len(mark) == 32 and until == self.held.setdefault(mark, until) and len(self.held) == 1
+            def take(self, entry: OnceEntry) -> Any:
+                return len(entry.mark) == 32 and entry == self.held.setdefault(entry.mark, entry) and len(self.held) == 1
 
         store = Store()
         one, other = self.taking(store), self.taking(store)
         token = one.issue({"iss": "i", "jti": "a", "exp": 1000})
         self.assertEqual(one.validate(token, 900)["jti"], "a")
-        self.assertEqual(list(store.held.values()), [1060])
+        self.assertEqual([it[1:] for it in store.held.values()], [(None, 1000, 60, 0)])
         self.refused(one, one.issue({"jti": "a", "exp": 1000}), 900, "Seen")
         self.assertEqual(len(store.held), 2)
         for claims, fault in (({"iss": "i", "exp": 1000}, "NoId"), ({"iss": "i", "jti": "a"}, "NoEnd")):
             self.refused(other, other.issue(claims), 900, fault)
         # (what isn't True refuses, and so does what is raised)
-        for answer in (None, 1, "new"):
-            store.take = lambda mark, until, answer=answer: answer  # type: ignore[method-assign, misc, assignment]
-            self.refused(one, token, 900, "Seen")
-        store.take = lambda mark, until: 1 // 0  # type: ignore[method-assign, assignment, return-value]
+        for answer, fault in ((None, "Seen"), (1, "Seen"), ("new", "Seen"), ("New", "Seen"), ("Late", "Late"), ("OwnFull", "OwnFull"), ("Full", "Full")):
+            store.take = lambda entry, answer=answer: answer  # type: ignore[method-assign, misc, assignment]
+            self.refused(one, token, 900, fault)
+        store.take = lambda entry: 1 // 0  # type: ignore[method-assign, assignment, return-value]
         with self.assertRaises(ZeroDivisionError):
             one.validate(token, 900)
         for it in (one, other):
@@ -274,7 +276,7 @@ class Taking(unittest.TestCase):
             self.assertEqual([validator.validate(token_of(HMAC), NOW)["iss"] for _ in range(2)], ["joe", "joe"])
 
     def test_validators_share_a_memory(self) -> None:
-        once = Once(10)
+        once = Once(10, opened=0)
         with self.taking(once) as first, self.taking(once) as second:
             token = first.issue({"iss": "i", "jti": "a", "exp": 1000})
             first.validate(token, 900)

@@ -9,7 +9,7 @@ import threading
 import unittest
 from typing import Any, Dict, List, Optional
 
-from fowharimu import UNBOUND, Certificate, DPoP, Expected, Nonces, NotExpected, NotHeld, NotTaken, Once, PolicyRefused, Proof, Proofs, TokenRefused, Validator
+from fowharimu import UNBOUND, Certificate, DPoP, Expected, Nonces, NotExpected, NotHeld, NotTaken, Once, OnceEntry, PolicyRefused, Proof, Proofs, TokenRefused, Validator
 from fowharimu.issuers import Issuers
 
 TOP = pathlib.Path(__file__).resolve().parents[3]
@@ -31,7 +31,7 @@ class Possession(unittest.TestCase):
 
     def answer(self, row: Dict[str, Any], by: Validator) -> str:
         try:
-            by.validate(row["token"], row["now"], holder=proof_of(row, Proofs(FIRST["policy"], 1)))
+            by.validate(row["token"], row["now"], holder=proof_of(row, Proofs(FIRST["policy"], Once(1, opened=0))))
         except NotHeld as refusal:
             return refusal.fault
         return "held"
@@ -50,7 +50,7 @@ class Possession(unittest.TestCase):
         self.assertGreater(count, 500)
 
     def test_a_proof_counts_once(self) -> None:
-        once = Once(2)
+        once = Once(2, share=2, opened=0)
         proofs = Proofs(FIRST["policy"], once)
         with validator() as by:
             by.validate(GOOD["token"], GOOD["now"], holder=proof_of(GOOD, proofs))
@@ -59,14 +59,14 @@ class Possession(unittest.TestCase):
             self.assertEqual(caught.exception.fault, "Seen")
 
     def test_what_isnt_expected_takes_no_proof(self) -> None:
-        proofs = Proofs(FIRST["policy"], 1)
+        proofs = Proofs(FIRST["policy"], Once(1, opened=0))
         with validator() as by:
             with self.assertRaises(NotExpected):
                 by.validate(GOOD["token"], GOOD["now"], expected=Expected({"sub": "nobody"}), holder=proof_of(GOOD, proofs))
             by.validate(GOOD["token"], GOOD["now"], expected=Expected({"sub": "user"}), holder=proof_of(GOOD, proofs))
 
     def test_one_of_many_threads_has_its_proof_taken(self) -> None:
-        proofs, held = Proofs(FIRST["policy"], 8), []  # type: Proofs, List[int]
+        proofs, held = Proofs(FIRST["policy"], Once(8, share=8, opened=0)), []  # type: Proofs, List[int]
         with validator() as by:
 
             def show() -> None:
@@ -98,11 +98,15 @@ class Possession(unittest.TestCase):
         with validator() as by:
             token = by.issue({"sub": "user", "cnf": {"x5t#S256": digest}})
             self.assertEqual(by.validate(token, holder=Certificate(der))["sub"], "user")
-            others: List[Any] = [(token, der + b"."), (token, b""), (by.issue({"sub": "user"}), der), (GOOD["token"], der)]
-            for bound, other in others:
+            both = by.issue({"cnf": {"jkt": "a", "x5t#S256": digest}})
+            others: List[Any] = [
+                (token, der + b".", "OtherCertificate"), (token, b"", "OtherCertificate"), (by.issue({"sub": "user"}), der, "OtherCertificate"),
+                (GOOD["token"], der, "OtherKey"), (both, der, "OtherKey"), (by.issue({"cnf": {}}), der, "Unknown"),
+            ]
+            for bound, other, fault in others:
                 with self.assertRaises(NotHeld) as caught:
                     by.validate(bound, holder=Certificate(other))
-                self.assertEqual(caught.exception.fault, "OtherCertificate")
+                self.assertEqual(caught.exception.fault, fault)
 
     def test_tokens_of_profiles_are_held_by_another(self) -> None:
         rows = [(it.parent, *line.split("\t")[2:]) for it in TOP.glob("examples/profiles/*/steps.tsv") for line in it.read_text().splitlines()]
@@ -132,10 +136,10 @@ class Possession(unittest.TestCase):
     def test_what_is_no_holder_is_no_call(self) -> None:
         nothing: Optional[Any] = None
         with validator() as by:
-            for holder in (nothing, {}, GOOD["proof"], Proofs(FIRST["policy"], 1), Certificate):
+            for holder in (nothing, {}, GOOD["proof"], Proofs(FIRST["policy"], Once(1, opened=0)), Certificate):
                 with self.assertRaises(TypeError):
                     by.validate(GOOD["token"], holder=holder)  # type: ignore[arg-type]
-        proofs = Proofs(FIRST["policy"], 1)
+        proofs = Proofs(FIRST["policy"], Once(1, opened=0))
         for value, method, nonce, error in [(nothing, "GET", None, TypeError), ("a", nothing, None, TypeError), ("a", "GET", "", ValueError)]:
             with self.assertRaises(error):
                 Proof(proofs, value, method, "https://a/", nonce)  # type: ignore[arg-type]
@@ -159,18 +163,19 @@ class Possession(unittest.TestCase):
         with validator() as by:
             nonces = Nonces(bytes(32), 60)
             with self.assertRaises(NotHeld) as caught:
-                by.validate(row["token"], row["now"], holder=Proof(Proofs(FIRST["policy"], 1), row["proof"], row["method"], row["uri"], nonces))
+                by.validate(row["token"], row["now"], holder=Proof(Proofs(FIRST["policy"], Once(1, opened=0)), row["proof"], row["method"], row["uri"], nonces))
             self.assertEqual((caught.exception.fault, caught.exception._outcome), ("OtherNonce", 10))
             with self.assertRaises(NotHeld) as caught:
-                by.validate(row["token"], row["now"], holder=Proof(Proofs(FIRST["policy"], 1), row["proof"], "POST", row["uri"], nonces))
+                by.validate(row["token"], row["now"], holder=Proof(Proofs(FIRST["policy"], Once(1, opened=0)), row["proof"], "POST", row["uri"], nonces))
             self.assertEqual((caught.exception.fault, caught.exception._outcome), ("OtherMethod", 9))
 
     def test_a_store_that_is_shared_takes_proofs(self) -> None:
-        taken: Dict[bytes, int] = {}
+        taken: Dict[bytes, OnceEntry] = {}
 
         class Store:
-            def take(self, mark: bytes, until: int) -> bool:
-                return taken.setdefault(mark, until) == until and list(taken) == [mark] and not seen
+            def take(self, entry: OnceEntry) -> bool:
+                taken[entry.mark] = entry
+                return not seen
 
         seen: List[int] = []
         with validator() as by:
@@ -178,18 +183,19 @@ class Possession(unittest.TestCase):
             by.validate(GOOD["token"], GOOD["now"], holder=proof_of(GOOD, proofs))
             thumbprint, jti = json.loads(GOOD["claims"])["cnf"]["jkt"], "e1j3V_bKic8-LAEB"
             digest = hashlib.sha256(len(thumbprint).to_bytes(8, "big") + (thumbprint + jti).encode()).digest()
-            self.assertEqual(taken, {digest: GOOD["now"] + 65})
+            owner = None if "sub" not in json.loads(GOOD["claims"]) else hashlib.sha256((0).to_bytes(8, "big") + b"user").digest()
+            self.assertEqual(taken, {digest: OnceEntry(digest, owner, GOOD["now"], 65, GOOD["now"] - 5)})
             seen.append(1)
             with self.assertRaises(NotTaken) as caught:
                 by.validate(GOOD["token"], GOOD["now"], holder=proof_of(GOOD, proofs))
             self.assertEqual((caught.exception.fault, caught.exception._outcome), ("Seen", 9))
 
     def test_the_names_of_the_algorithms(self) -> None:
-        self.assertEqual(Proofs(FIRST["policy"], 1).algs, " ".join(FIRST["policy"]["algs"]))
+        self.assertEqual(Proofs(FIRST["policy"], Once(1, opened=0)).algs, " ".join(FIRST["policy"]["algs"]))
         self.assertEqual(Proofs({**FIRST["policy"], "algs": ["EdDSA"]}, 1).algs, "EdDSA")
 
     def test_a_guard_is_made_of_proofs_and_an_origin(self) -> None:
-        proofs, nothing = Proofs(FIRST["policy"], 1), None  # type: Proofs, Optional[Any]
+        proofs, nothing = Proofs(FIRST["policy"], Once(1, opened=0)), None  # type: Proofs, Optional[Any]
         for origin in ("https://api.example", "HTTP://[::1]:8080", "https://api.example:8443"):
             DPoP(proofs, origin, only=True, nonces=Nonces(bytes(32)))
         for one, origin, words, error in [

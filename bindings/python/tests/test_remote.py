@@ -133,7 +133,7 @@ class Waiting(unittest.TestCase):
         threads = []
 
         class Store:
-            def take(self, mark: bytes, until: int) -> bool:
+            def take(self, entry: Any) -> bool:
                 return True
 
         class Noting(RemoteKeys):

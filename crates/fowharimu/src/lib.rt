@@ -19,7 +19,8 @@
 //! [`Taken::New`] of each token one time, and nothing else lets it through.
 //!
 //! Where tokens are bound to a key (DPoP, RFC 9449), [`judge_proof`] judges the proof that comes beside one, by a [`ProofPolicy`], and [`Possession::take`] takes it
-//! once; [`Nonces`] are nonces by time. [`certificate_holds`] says whether a token is bound to a client's certificate (RFC 8705).
+//! once; [`Nonces`] are nonces by time. [`first_unshown`] says whether each way in which a token is bound, to a key or to a client's certificate (RFC 8705), was
+//! [`Shown`]: ask it of each token, a bearer's too.
 //!
 //! Each other name here is that of one of the libraries below: `jwt_text`, `jwt_mac`, `jwt_keys`, `jwt_jws`, `jwt_policy`, `jwt_access`,
 //! `jwt_verify`, `jwt_memory`, `jwt_once`, `jwt_possession`, `jwt_issue`, `jwt_expected`, `jwt_built_in`, `jwt_rsa`, `jwt_ecdsa` and `jwt_ed25519`. Their modules `laws` stand
@@ -50,9 +51,9 @@ pub use jwt_once::{Entry, Lack, Once, Taken, Times, entry_of, owner_in};
 
 // Who sends a token holds the key that it is bound to.
 pub use jwt_possession::{
-    Access, Binding, KeyFault, NONCE_LEN, NONCE_SECRET_LEN, Nonces, PolicyLack, Possession,
-    ProofFault, ProofPolicy, ProofPolicyFault, Request, RequestFault, certificate_holds,
-    judge_proof, normal_uri,
+    Access, Binding, BindingFault, KeyFault, NONCE_LEN, NONCE_SECRET_LEN, Nonces, PolicyLack,
+    Possession, ProofFault, ProofPolicy, ProofPolicyFault, Request, RequestFault, Shown,
+    certificate_holds, first_unshown, has_agreed_path, judge_proof, normal_uri,
 };
 
 // Judging the same token many times.

@@ -5,6 +5,7 @@ ghost use Rattle.std.specs.Prelude.{◌≡◌, ◌≢◌, ◌↔◌, IfSome, Non
 ghost use Rattle.jwt_handles.specs.Taking.{HoldsNone, TakesLast};
 ghost use Rattle.jwt_handles.specs.Entries.{TellsLast};
 
+use jwt_handles::entries::FowEntry;
 use jwt_handles::handle::Handle;
 use jwt_handles::once_handle::OnceHandle;
 use jwt_handles::{entries, onces};
@@ -12,13 +13,19 @@ use std::alloc::Global;
 
 /// [`onces::once_open`] by its name in C.
 #[unsafe(no_mangle)]
-pub extern "C" fn fow_once_open(once: &mut OnceHandle, alloc: Global, tokens: usize) -> u32
-    ensures opened { result ≡ FOW_OK → HoldsNone tokens once.new.state }
+pub extern "C" fn fow_once_open(
+    once: &mut OnceHandle,
+    alloc: Global,
+    tokens: usize,
+    share: usize,
+    opened: u64,
+) -> u32
+    ensures opened { result ≡ FOW_OK → HoldsNone tokens share opened once.new.state }
     ensures refused { (result ≡ FOW_REFUSED) ↔ (tokens ≡ 0) }
     ensures statuses { result ≢ FOW_OK → result ≢ FOW_REFUSED → result ≡ FOW_OUT_OF_MEMORY }
     ensures same { result ≢ FOW_OK → once.new.state ≡ once.old.state }
 {
-    onces::once_open(once, alloc, tokens)
+    onces::once_open(once, alloc, tokens, share, opened)
 }
 
 /// [`onces::once_take`] by its name in C.
@@ -44,16 +51,16 @@ pub extern "C" fn fow_once_take(
 pub extern "C" fn fow_once_entry(
     validator: &mut Handle,
     alloc: Global,
-    mark: &mut [u8],
-    until: &mut u64,
+    now: i64,
+    out: &mut FowEntry,
     lacks: &mut u32,
 ) -> u32
     ensures same { validator.new.state ≡ validator.old.state }
     ensures none { validator.old.state ≡ None → result ≡ FOW_NOT_OPEN }
-    ensures entry { IfSome validator.old.state (λ d. TellsLast d result mark.old mark.new until.new lacks.new) }
-    ensures unwritten { result ≢ FOW_OK → (mark.new ≡ mark.old) × (until.new ≡ until.old) }
+    ensures entry { IfSome validator.old.state (λ d. TellsLast d now result out.new lacks.new) }
+    ensures unwritten { result ≢ FOW_OK → out.new ≡ out.old }
 {
-    entries::once_entry(validator, alloc, mark, until, lacks)
+    entries::once_entry(validator, alloc, now, out, lacks)
 }
 
 /// [`onces::once_close`] by its name in C.

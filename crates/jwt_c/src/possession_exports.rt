@@ -6,7 +6,7 @@ ghost use Rattle.jwt_verify.specs.Verdict.{token_of};
 ghost use Rattle.jwt_possession.specs.AlgNames.{algs_text};
 ghost use Rattle.jwt_possession.specs.Nonces.{MakesNonces, nonce_of};
 ghost use Rattle.jwt_possession.specs.Possessions.{proved};
-ghost use Rattle.jwt_handles.specs.Bound.{SaysCertificate, TellsBound};
+ghost use Rattle.jwt_handles.specs.Bound.{SaysBound, SaysWays};
 ghost use Rattle.jwt_handles.specs.Documents.{documents};
 ghost use Rattle.jwt_handles.specs.Entries.{TellsProof};
 ghost use Rattle.jwt_handles.specs.Evidence.{claims_kept};
@@ -14,6 +14,7 @@ ghost use Rattle.jwt_handles.specs.Nonces.{SaysFresh};
 ghost use Rattle.jwt_handles.specs.Possessing.{HoldsOn, HoldsPolicy, IsPolicyRefused, SaysBeside, SaysFor, TakesKept, claims_of_last, kept_in};
 ghost use Rattle.jwt_handles.specs.Written.{Puts, PutsHeld};
 
+use jwt_handles::entries::FowEntry;
 use jwt_handles::handle::Handle;
 use jwt_handles::once_handle::OnceHandle;
 use jwt_handles::possessing::{Asked, Sent};
@@ -118,16 +119,14 @@ pub extern "C" fn fow_possession_thumbprint(
 pub extern "C" fn fow_possession_entry(
     possession: &mut PossessionHandle,
     alloc: Global,
-    mark: &mut [u8],
-    until: &mut u64,
-    lacks: &mut u32,
+    out: &mut FowEntry,
 ) -> u32
     ensures same { possession.new.state ≡ possession.old.state }
     ensures none { possession.old.state ≡ None → result ≡ FOW_NOT_OPEN }
-    ensures entry { IfSome possession.old.state (λ p. TellsProof p.last result mark.old mark.new until.new lacks.new) }
-    ensures unwritten { result ≢ FOW_OK → (mark.new ≡ mark.old) × (until.new ≡ until.old) }
+    ensures entry { IfSome possession.old.state (λ p. TellsProof p.last result out.new) }
+    ensures unwritten { result ≢ FOW_OK → out.new ≡ out.old }
 {
-    entries::possession_entry(possession, alloc, mark, until, lacks)
+    entries::possession_entry(possession, alloc, out)
 }
 
 /// [`possessions::possession_algs`] by its name in C.
@@ -188,23 +187,21 @@ pub extern "C" fn fow_possession_close(possession: &mut PossessionHandle, alloc:
     possessions::possession_close(possession, alloc);
 }
 
-/// [`bound::bound`] by its name in C.
+/// [`bound::shown`] by its name in C.
 #[unsafe(no_mangle)]
-pub extern "C" fn fow_bound(validator: &mut Handle, alloc: Global, how: &mut u32) -> u32
+pub extern "C" fn fow_shown(
+    validator: &mut Handle,
+    alloc: Global,
+    possession: &mut PossessionHandle,
+    der: &[u8],
+    ways: &mut u32,
+    fault: &mut u32,
+) -> u32
     ensures same { validator.new.state ≡ validator.old.state }
-    ensures none { validator.old.state ≡ None → result ≡ FOW_NOT_OPEN }
-    ensures bound { IfSome validator.old.state (λ d. TellsBound (claims_kept d.last) result how.new) }
-    ensures unknown { result ≢ FOW_OK → how.new ≡ 1 }
+    ensures same_proof { possession.new.state ≡ possession.old.state }
+    ensures none { validator.old.state ≡ None → (result ≡ FOW_NOT_OPEN) × (ways.new ≡ 0) × (fault.new ≡ 0) }
+    ensures shown { IfSome validator.old.state (λ d. SaysBound (claims_kept d.last) (kept_in possession.old.state) der.now result fault.new) }
+    ensures ways { IfSome validator.old.state (λ d. SaysWays (claims_kept d.last) result ways.new) }
 {
-    bound::bound(validator, alloc, how)
-}
-
-/// [`bound::certificate_holds`] by its name in C.
-#[unsafe(no_mangle)]
-pub extern "C" fn fow_certificate_holds(validator: &mut Handle, alloc: Global, der: &[u8]) -> u32
-    ensures same { validator.new.state ≡ validator.old.state }
-    ensures none { validator.old.state ≡ None → result ≡ FOW_NOT_OPEN }
-    ensures holds { IfSome validator.old.state (λ d. SaysCertificate der.now (claims_kept d.last) result) }
-{
-    bound::certificate_holds(validator, alloc, der)
+    bound::shown(validator, alloc, possession, der, ways, fault)
 }

@@ -1,11 +1,11 @@
 //! The functions that C calls for the token of a request, and for what is answered to it.
 
 ghost use Rattle.jwt_handles.specs.declared.status.TheConstants.{FOW_ABSENT, FOW_OK, FOW_REFUSED};
-ghost use Rattle.std.specs.Prelude.{◌≡◌, ◌≢◌, ◌≤◌, ◌↔◌, IsTrue};
+ghost use Rattle.std.specs.Prelude.{◌≡◌, ◌≢◌, ◌≤◌, ◌↔◌, IsTrue, nat_lt};
 ghost use Rattle.std.specs.List.{All};
 ghost use Rattle.jwt_request.specs.Replies.{IsReply};
 ghost use Rattle.jwt_request.specs.Challenges.{IsQuotable};
-ghost use Rattle.jwt_handles.specs.Requests.{IsAbsentBy, IsMalformedBy, IsOutcomeOfProof, IsTokenBy, challenge_of, outcome_of, reply_of, scheme_of, schemes_of, text_by};
+ghost use Rattle.jwt_handles.specs.Requests.{IsAbsentBy, IsMalformedBy, IsOutcomeOfProof, IsOutcomeOfTaken, IsTokenBy, challenge_of, outcome_of, reply_of, scheme_of, schemes_of, text_by};
 ghost use Rattle.jwt_handles.specs.Written.{Puts};
 
 use jwt_handles::requests::{self, FowReply, NumberedChallenge};
@@ -40,9 +40,18 @@ pub extern "C" fn fow_reply_to(schemes: u32, shown: u32, outcome: u32, reply: &m
 #[unsafe(no_mangle)]
 pub extern "C" fn fow_proof_outcome(status: u32, fault: u32) -> u32
     ensures outcome { IsOutcomeOfProof status fault (outcome_of result) }
-    ensures known { result ≤ 10 }
+    ensures known { result ≤ 13 }
 {
     requests::proof_outcome(status, fault)
+}
+
+/// [`requests::taken_outcome`] by its name in C.
+#[unsafe(no_mangle)]
+pub extern "C" fn fow_taken_outcome(of_proof: u32, status: u32, taken: u32) -> u32
+    ensures outcome { IsOutcomeOfTaken (nat_lt 0 of_proof) status taken (outcome_of result) }
+    ensures known { result ≤ 13 }
+{
+    requests::taken_outcome(of_proof, status, taken)
 }
 
 /// [`requests::quotable`] by its name in C.

@@ -30,6 +30,7 @@ proof_refused : (f : ProofFault) → (proof_numbers f).verdict ≡ FOW_OK → �
 proof_refused (proof.NoToken f) h = fault_refused f h
 proof_refused (proof.NoKey f) h = key_refused f h
 proof_refused (proof.NotAccepted f) h = fault_refused f h
+proof_refused proof.OtherKey h = cc
 proof_refused (proof.OtherRequest f) h = cc
 proof_refused proof.OutOfMemory h = cc
 

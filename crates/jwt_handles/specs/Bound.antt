@@ -1,33 +1,55 @@
--- How the token that was accepted last is bound, by its claim `cnf`.
-use Rattle.std.specs.Prelude.{◌≡◌, ◌≢◌, ℕ, ◌+◌, Bool, true, false, List, Option, Some, None, is_some, if◌then◌else◌}
-use Rattle.std.specs.Str.{bytes_eq}
+-- Whether each way in which the token that was accepted last is bound was shown.
+use Rattle.std.specs.Prelude.{◌≡◌, ◌≢◌, ℕ, ◌+◌, Bool, List, [], ◌∷◌, Option, Some, None, option_map, is_some, if◌then◌else◌}
 use Rattle.serde_json.specs.Data.{Members}
-use Rattle.jwt_policy.specs.Texts.{some_passes}
-use Rattle.jwt_possession.specs.Bindings.{is_bound, bound_key, bound_certificate, digest_text}
-use Rattle.jwt_handles.specs.declared.status.TheConstants.{FOW_OK, FOW_OUT_OF_MEMORY, FOW_ABSENT, FOW_NOT_EXPECTED}
+use Rattle.jwt_text.specs.Rows.{first_row}
+use Rattle.jwt_possession.specs.Bindings.{bound_key, bound_certificate}
+use Rattle.jwt_possession.specs.Possessions.{proved}
+use Rattle.jwt_possession.specs.Shown.{binding_rows}
+use Rattle.jwt_possession.specs.declared.binding.BindingFault.{BindingFault}
+use Rattle.jwt_possession.specs.declared.binding.BindingFault.TheVariants.{Unknown, OtherKey, OtherCertificate}
+use Rattle.jwt_possession.specs.declared.binding.Shown.{Shown}
+use Rattle.jwt_possession.specs.declared.possession.Possession.{Possession}
+use Rattle.jwt_handles.specs.declared.status.TheConstants.{FOW_OK, FOW_REFUSED, FOW_OUT_OF_MEMORY, FOW_ABSENT}
+
+-- no octets are no certificate
+abbrev pub certificate_of : List ℕ → Option (List ℕ)
+certificate_of [] = None
+certificate_of (first ∷ rest) = Some (first ∷ rest)
+
+-- shown are the key of the proof that is kept, where there is one, and this certificate, where there are octets of one
+pub record ShowsThese (kept : Option Possession) (der : List ℕ) (shown : Shown) : Type 0 where
+  pub key : option_map (λ k. k.now) shown.key ≡ option_map (λ it. (proved it).thumbprint) kept
+  pub certificate : option_map (λ c. c.now) shown.certificate ≡ certificate_of der
+
+abbrev pub binding_number : BindingFault → ℕ
+binding_number Unknown = 1401
+binding_number OtherKey = 1402
+binding_number OtherCertificate = 1403
+
+-- FOW_OK where no row holds, else FOW_REFUSED with the number of the first
+abbrev pub SaysBinding : Option BindingFault → ℕ → ℕ → Type 0
+SaysBinding None status fault = (status ≡ FOW_OK) × (fault ≡ 0)
+SaysBinding (Some why) status fault = (status ≡ FOW_REFUSED) × (fault ≡ binding_number why)
 
 -- this bit, where it is set
 abbrev pub bit : Bool → ℕ → ℕ
 bit is number = if is then number else 0
 
--- the bits of `enum fow_binding`: there is a `cnf`, it has a key, it has a certificate
-abbrev pub bound_number : Members → ℕ
-bound_number claims = bit (is_bound claims) 1 + bit (is_some (bound_key claims)) 2 + bit (is_some (bound_certificate claims)) 4
+-- the bits of `enum fow_binding`: the claims are bound to a key, to a certificate
+abbrev pub ways_of : Members → ℕ
+ways_of claims = bit (is_some (bound_key claims)) 1 + bit (is_some (bound_certificate claims)) 2
 
--- the same of these claims; FOW_ABSENT where there are none
-abbrev pub TellsBound : Option Members → ℕ → ℕ → Type 0
-TellsBound None status how = status ≡ FOW_ABSENT
-TellsBound (Some claims) status how = (status ≡ FOW_OK) × (how ≡ bound_number claims)
+-- what is said of these claims, where there are any, by what is shown
+abbrev pub SaysShown : Option Members → Shown → ℕ → ℕ → Type 0
+SaysShown None shown status fault = (status ≡ FOW_ABSENT) × (fault ≡ 0)
+SaysShown (Some claims) shown status fault = (status ≢ FOW_OUT_OF_MEMORY → SaysBinding (first_row (binding_rows claims shown)) status fault)
+    × (status ≡ FOW_OUT_OF_MEMORY → fault ≡ 0)
 
--- `x5t#S256` is the digest of this certificate (RFC 8705, section 3.1)
-abbrev pub is_certificate : List ℕ → Members → Bool
-is_certificate der claims = some_passes (λ text. bytes_eq text (digest_text der)) (bound_certificate claims)
+-- the same by the proof that is kept and this certificate
+abbrev pub SaysBound : Option Members → Option Possession → List ℕ → ℕ → ℕ → Type 0
+SaysBound claims kept der status fault = (shown : Shown) × ShowsThese kept der shown × SaysShown claims shown status fault
 
-abbrev pub SaysIs : Bool → ℕ → Type 0
-SaysIs true status = status ≡ FOW_OK
-SaysIs false status = status ≡ FOW_NOT_EXPECTED
-
--- FOW_OK where it is, else FOW_NOT_EXPECTED; FOW_ABSENT where there are no claims
-abbrev pub SaysCertificate : List ℕ → Option Members → ℕ → Type 0
-SaysCertificate der None status = status ≡ FOW_ABSENT
-SaysCertificate der (Some claims) status = status ≢ FOW_OUT_OF_MEMORY → SaysIs (is_certificate der claims) status
+-- how the claims that were accepted are bound, where each way is shown; else nothing is said
+abbrev pub SaysWays : Option Members → ℕ → ℕ → Type 0
+SaysWays None status ways = ways ≡ 0
+SaysWays (Some claims) status ways = (status ≡ FOW_OK → ways ≡ ways_of claims) × (status ≢ FOW_OK → ways ≡ 0)

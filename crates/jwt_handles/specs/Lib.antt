@@ -16,7 +16,7 @@ pub mod Reports
 pub mod Payloads
 -- what a judging adds to the memory of a validator
 pub mod Keeping
--- how the token that was accepted last is bound, by its claim `cnf`
+-- whether each way in which the token that was accepted last is bound was shown
 pub mod Bound
 -- the octets that are written for the caller, by the status
 pub mod Written

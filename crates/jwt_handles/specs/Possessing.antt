@@ -1,5 +1,5 @@
 -- Proofs of possession: the policy for them that is held, and what is answered to a proof.
-use Rattle.std.specs.Prelude.{◌≡◌, ◌≢◌, ℕ, ℤ, List, [], ◌∷◌, IsUtf8, Option, Some, None, option_map, if◌then◌else◌, Result, Ok, Err}
+use Rattle.std.specs.Prelude.{◌≡◌, ◌≢◌, ℕ, ℤ, List, [], ◌∷◌, IsUtf8, Option, Some, None, option_map, if◌then◌else◌, nat_lt, Result, Ok, Err}
 use Rattle.std.specs.Str.{bytes_eq}
 use Rattle.serde_json.specs.Data.{Members}
 use Rattle.jwt_text.specs.Rows.{first_row}
@@ -15,7 +15,7 @@ use Rattle.jwt_once.specs.declared.once.Once.{Once}
 use Rattle.jwt_once.specs.declared.once.Taken.{Taken}
 use Rattle.jwt_possession.specs.ProofPolicies.{policy_rows}
 use Rattle.jwt_possession.specs.Proofs.{IsProof, IsProofFault}
-use Rattle.jwt_possession.specs.Possessions.{proved, proof_mark, proof_owner, proof_times}
+use Rattle.jwt_possession.specs.Possessions.{proved, owner_beside, proof_mark, proof_times}
 use Rattle.jwt_possession.specs.declared.own_key.KeyFault.{KeyFault}
 use Rattle.jwt_possession.specs.declared.own_key.KeyFault.TheVariants as key
 use Rattle.jwt_possession.specs.declared.policy.PolicyLack.{PolicyLack}
@@ -55,12 +55,13 @@ request_number request.OtherMethod = 1301
 request_number request.OtherUri = 1302
 request_number request.OtherNonce = 1303
 request_number request.OtherAccessToken = 1304
-request_number request.OtherKey = 1305
+request_number request.PathForm = 1306
 
 -- of a fault of the token those that a verdict on it has
 abbrev pub proof_numbers : ProofFault → Numbers
 proof_numbers (proof.NoToken why) = fault_numbers why
 proof_numbers (proof.NoKey why) = key_numbers why
+proof_numbers proof.OtherKey = refusal 1305 0 0 0 0
 proof_numbers (proof.NotAccepted why) = fault_numbers why
 proof_numbers (proof.OtherRequest why) = refusal (request_number why) 0 0 0 0
 proof_numbers proof.OutOfMemory = bare FOW_OUT_OF_MEMORY
@@ -124,6 +125,7 @@ abbrev pub IsKept : Settings → ℤ → Request → List ℕ → Option Possess
 IsKept policy now request octets None = ⊥
 IsKept policy now request octets (Some it) = (key : KeyParts) × ((proved it).thumbprint ≡ key.thumbprint)
     × IsProof policy proved_meanings now request octets key (proved it).claims × ((proved it).times ≡ proof_times policy (proved it).claims)
+    × ((proved it).owner ≡ owner_beside (option_map (λ a. a.claims.now) request.access) (proved it).thumbprint)
 
 -- nothing is kept, and the numbers are those of the first cause why it is none
 abbrev pub IsNone : Settings → ℤ → Request → List ℕ → ℕ → ℕ → Option Possession → Type 0
@@ -165,7 +167,8 @@ SaysBeside (Some claims) policy now parts octets status number kept = SaysFor po
 abbrev pub TakesProof : Option Possession → ℤ → Once → ℕ → ℕ → Once → Type 0
 TakesProof None now old status taken new = (status ≡ FOW_ABSENT) × (taken ≡ 0) × (new ≡ old)
 TakesProof (Some it) now old status taken new =
-    (answer : Taken) × IsTaken old (proof_mark (proved it)) (Some (proof_owner (proved it))) (proved it).times (seconds now) answer new × SaysTaken (Ok answer) status taken
+    (answer : Taken) × IsTaken old (proof_mark (proved it)) (proved it).owner (proved it).times (seconds now) answer new
+    × SaysTaken (nat_lt (proved it).times.issued old.opened) (Ok answer) status taken
 
 -- the same of a memory that is held on
 abbrev pub TakesKept : Option Possession → ℤ → OnceState → ℕ → ℕ → Option OnceState → Type 0

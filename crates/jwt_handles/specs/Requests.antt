@@ -1,12 +1,12 @@
 -- How what is answered to a request crosses to C: as numbers.
-use Rattle.std.specs.Prelude.{◌≡◌, ◌≢◌, ◌⊎◌, ◌↔◌, ◌||◌, ℕ, ◌==◌, if◌then◌else◌, List, [], Option, Some, None}
+use Rattle.std.specs.Prelude.{◌≡◌, ◌≢◌, ◌⊎◌, ◌↔◌, ◌||◌, Bool, ℕ, ◌==◌, if◌then◌else◌, List, [], Option, Some, None}
 use Rattle.jwt_request.specs.declared.scheme.Scheme.{Scheme}
 use Rattle.jwt_request.specs.declared.scheme.Scheme.TheVariants.{Bearer, Dpop}
 use Rattle.jwt_request.specs.declared.scheme.Schemes.{Schemes}
 use Rattle.jwt_request.specs.declared.credentials.Credentials.TheVariants as found
 use Rattle.jwt_request.specs.declared.replies.Reply.{Reply}
 use Rattle.jwt_request.specs.declared.replies.Outcome.{Outcome}
-use Rattle.jwt_request.specs.declared.replies.Outcome.TheVariants.{Several, Absent, Malformed, Accepted, Refused, ScopeMissing, Denied, ProofRefused, NonceWanted, KeysTooOld, Unanswered}
+use Rattle.jwt_request.specs.declared.replies.Outcome.TheVariants.{Several, Absent, Malformed, Accepted, Refused, ScopeMissing, Denied, ProofRefused, NonceWanted, PathForm, ShareUsedUp, MemoryFull, KeysTooOld, Unanswered}
 use Rattle.jwt_request.specs.declared.challenge.Challenge.{Challenge}
 use Rattle.jwt_request.specs.declared.challenge.Challenge.TheVariants.{Silent, Realm, InvalidRequest, InvalidToken, InsufficientScope, Scopes, InvalidProof, UseNonce}
 use Rattle.jwt_request.specs.Spelled.{IsFound}
@@ -14,7 +14,8 @@ use Rattle.jwt_request.specs.Challenges.{challenge_text}
 use Rattle.jwt_possession.specs.declared.request.RequestFault.TheVariants as request
 use Rattle.jwt_handles.specs.declared.requests.FowReply.{FowReply}
 use Rattle.jwt_handles.specs.declared.status.TheConstants.{FOW_OK, FOW_REFUSED, FOW_NOT_EXPECTED}
-use Rattle.jwt_handles.specs.Possessing.{request_number}
+use Rattle.jwt_possession.specs.declared.proof.ProofFault.TheVariants as proof
+use Rattle.jwt_handles.specs.Possessing.{proof_numbers, request_number}
 
 -- a scheme, by number; any other number is none
 abbrev pub scheme_of : ℕ → Option Scheme
@@ -48,7 +49,10 @@ outcome_of number =
     else (if number == 7 then Denied
     else (if number == 8 then KeysTooOld
     else (if number == 9 then ProofRefused
-    else (if number == 10 then NonceWanted else Unanswered)))))))))
+    else (if number == 10 then NonceWanted
+    else (if number == 11 then PathForm
+    else (if number == 12 then ShareUsedUp
+    else (if number == 13 then MemoryFull else Unanswered))))))))))))
 
 -- a challenge, by number
 abbrev pub challenge_of : ℕ → Challenge
@@ -69,13 +73,32 @@ abbrev pub text_by : Option Scheme → Challenge → List ℕ → List ℕ → L
 text_by None challenge realm scope algs = []
 text_by (Some scheme) challenge realm scope algs = challenge_text scheme challenge realm scope algs
 
+-- the fault of a proof by another key than that of its access token
+abbrev pub other_key : ℕ
+other_key = (proof_numbers proof.OtherKey).fault
+
 -- what an answer on a proof makes of its request (RFC 9449, sections 7.1 and 9)
 pub record IsOutcomeOfProof (status fault : ℕ) (outcome : Outcome) : Type 0 where
   pub admitted : (outcome ≡ Accepted) ↔ (status ≡ FOW_OK)
   -- the nonce is another than the one that is asked for, or there is none
   pub nonce : (outcome ≡ NonceWanted) ↔ ((status ≡ FOW_NOT_EXPECTED) ⊎ ((status ≡ FOW_REFUSED) × (fault ≡ request_number request.OtherNonce)))
   -- the token is bound to another key than the proof's, or to none
-  pub token : (outcome ≡ Refused) ↔ ((status ≡ FOW_REFUSED) × (fault ≡ request_number request.OtherKey))
-  -- the proof has any other fault, or was taken before
-  pub proof : (outcome ≡ ProofRefused) ↔ ((status ≡ FOW_REFUSED) × (fault ≢ request_number request.OtherNonce) × (fault ≢ request_number request.OtherKey))
+  pub token : (outcome ≡ Refused) ↔ ((status ≡ FOW_REFUSED) × (fault ≡ other_key))
+  -- the path of the request is none of which every reader makes the same
+  pub path : (outcome ≡ PathForm) ↔ ((status ≡ FOW_REFUSED) × (fault ≡ request_number request.PathForm))
+  -- the proof has any other fault
+  pub proof : (outcome ≡ ProofRefused) ↔ ((status ≡ FOW_REFUSED) × (fault ≢ request_number request.OtherNonce) × (fault ≢ other_key)
+      × (fault ≢ request_number request.PathForm))
   pub unanswered : (outcome ≡ Unanswered) ↔ ((status ≢ FOW_OK) × (status ≢ FOW_NOT_EXPECTED) × (status ≢ FOW_REFUSED))
+
+-- what is said of a token that isn't new, and of a proof
+abbrev pub not_new : (of_proof : Bool) → Outcome
+not_new of_proof = if of_proof then ProofRefused else Refused
+
+-- what an answer on a token, or a proof, that counts once makes of its request: whose share is used up waits alone, and everybody where the memory is full
+pub record IsOutcomeOfTaken (of_proof : Bool) (status taken : ℕ) (outcome : Outcome) : Type 0 where
+  pub admitted : (outcome ≡ Accepted) ↔ (status ≡ FOW_OK)
+  pub own_full : (outcome ≡ ShareUsedUp) ↔ ((status ≡ FOW_REFUSED) × (taken ≡ 8))
+  pub full : (outcome ≡ MemoryFull) ↔ ((status ≡ FOW_REFUSED) × (taken ≡ 4))
+  pub refused : (outcome ≡ not_new of_proof) ↔ ((status ≡ FOW_REFUSED) × (taken ≢ 4) × (taken ≢ 8))
+  pub unanswered : (outcome ≡ Unanswered) ↔ ((status ≢ FOW_OK) × (status ≢ FOW_REFUSED))

@@ -2,26 +2,27 @@
 
 ghost use Rattle.jwt_handles.specs.declared.status.TheConstants.{FOW_NOT_OPEN, FOW_OK, FOW_REFUSED, FOW_OUT_OF_MEMORY};
 ghost use Rattle.std.specs.Prelude.{◌≡◌, ◌≢◌, ◌↔◌, IfSome, None, option_map};
-ghost use Rattle.jwt_handles.specs.Taking.{HoldsNone, SaysTaken, TakesClaims, TakesLast};
+ghost use Rattle.jwt_handles.specs.Taking.{HoldsNone, SaysTaken, TakesClaims, TakesLast, share_for};
+ghost use Rattle.std.specs.NonZero.{non_zero_usize_get};
 
 use crate::handle::{Handle, take};
 use crate::once_handle::{OnceHandle, take_once};
 use crate::once_state::OnceState;
 use crate::status::{FOW_ABSENT, FOW_NOT_OPEN, FOW_OK, FOW_OUT_OF_MEMORY, FOW_REFUSED};
-use jwt_once::{Lack, Once, Taken};
+use jwt_once::{Lack, Once, Taken, issued_of};
 use jwt_policy::{Claims, Policy};
 use std::alloc::Global;
 use std::num::NonZeroUsize;
 
-/// The status and the number of an answer.
-pub(crate) fn numbers_of(answer: Result<Taken, Lack>) -> (u32, u32)
-    ensures { SaysTaken answer result.0 result.1 }
+/// The status and the number of an answer, by whether what was asked about may have been accepted before the memory was opened.
+pub(crate) fn numbers_of(answer: Result<Taken, Lack>, before: bool) -> (u32, u32)
+    ensures { SaysTaken before answer result.0 result.1 }
 {
     match answer {
         Ok(Taken::New) => (FOW_OK, 1),
         Ok(Taken::Seen) => (FOW_REFUSED, 2),
-        Ok(Taken::Late) => (FOW_REFUSED, 3),
-        Ok(Taken::OwnFull) => (FOW_REFUSED, 4),
+        Ok(Taken::Late) => (FOW_REFUSED, if before { 9 } else { 3 }),
+        Ok(Taken::OwnFull) => (FOW_REFUSED, 8),
         Ok(Taken::Full) => (FOW_REFUSED, 4),
         Err(Lack::NoId) => (FOW_REFUSED, 5),
         Err(Lack::NoEnd) => (FOW_REFUSED, 6),
@@ -35,15 +36,38 @@ fn take_claims(once: &mut Once, policy: &Policy, claims: Option<&Claims>, now: i
     ensures { TakesClaims policy.now (option_map (λ c. c.now) claims.entry) now once.old result.0 result.1 once.new }
 {
     match claims {
-        Some(claims) => numbers_of(once.take_accepted(policy, claims, now)),
+        Some(claims) => {
+            let before = issued_of(policy, claims) < once.opened();
+            numbers_of(once.take_accepted(policy, claims, now), before)
+        }
         None => (FOW_ABSENT, 0),
     }
 }
 
-/// Makes an empty memory for at most so many tokens, all of which may be one owner's, to which no token may have been accepted before. `FOW_OK`: it is held from now on; `FOW_REFUSED`: it would be for none;
-/// `FOW_OUT_OF_MEMORY`: memory was refused. On any other status the handle holds what it held.
-pub fn once_open(once: &mut OnceHandle, alloc: Global, tokens: usize) -> u32
-    ensures opened { result ≡ FOW_OK → HoldsNone tokens once.new.state }
+/// How many one owner may have: where nothing is said, a sixteenth of the room.
+fn share_for(tokens: NonZeroUsize, share: usize) -> NonZeroUsize
+    ensures { non_zero_usize_get result ≡ share_for (non_zero_usize_get tokens) share }
+{
+    match NonZeroUsize::new(share) {
+        Some(share) => share,
+        None => match NonZeroUsize::new(tokens.get() / 16) {
+            Some(sixteenth) => sixteenth,
+            None => NonZeroUsize::MIN,
+        },
+    }
+}
+
+/// Makes an empty memory for at most so many tokens, of each owner's at most `share`, or a sixteenth where that is 0, opened at this moment: what may have been
+/// accepted before it is Late. `FOW_OK`: it is held from now on; `FOW_REFUSED`: it would be for none; `FOW_OUT_OF_MEMORY`: memory was refused. On any other
+/// status the handle holds what it held.
+pub fn once_open(
+    once: &mut OnceHandle,
+    alloc: Global,
+    tokens: usize,
+    share: usize,
+    opened: u64,
+) -> u32
+    ensures opened { result ≡ FOW_OK → HoldsNone tokens share opened once.new.state }
     ensures refused { (result ≡ FOW_REFUSED) ↔ (tokens ≡ 0) }
     ensures statuses { result ≢ FOW_OK → result ≢ FOW_REFUSED → result ≡ FOW_OUT_OF_MEMORY }
     ensures same { result ≢ FOW_OK → once.new.state ≡ once.old.state }
@@ -52,7 +76,7 @@ pub fn once_open(once: &mut OnceHandle, alloc: Global, tokens: usize) -> u32
         return FOW_REFUSED;
     };
     let state = OnceState {
-        once: Once::new(alloc, tokens, 0, tokens),
+        once: Once::new(alloc, tokens, opened, share_for(tokens, share)),
     };
     match Box::new(alloc, state) {
         Ok(state) => {

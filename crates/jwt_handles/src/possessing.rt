@@ -62,7 +62,7 @@ fn request_number(fault: RequestFault) -> u32
         RequestFault::OtherUri => 1302,
         RequestFault::OtherNonce => 1303,
         RequestFault::OtherAccessToken => 1304,
-        RequestFault::OtherKey => 1305,
+        RequestFault::PathForm => 1306,
     }
 }
 
@@ -73,6 +73,7 @@ fn proof_numbers(fault: &ProofFault<'_>) -> FowReport
     match fault {
         ProofFault::NoToken(fault) => FowReport::of_fault(fault),
         ProofFault::NoKey(fault) => key_numbers(*fault),
+        ProofFault::OtherKey => FowReport::refusal(1305, 0, 0, 0, 0),
         ProofFault::NotAccepted(fault) => FowReport::of_fault(fault),
         ProofFault::OtherRequest(fault) => {
             FowReport::refusal(request_number(*fault), 0, 0, 0, 0)

@@ -101,7 +101,10 @@ fn take_kept(once: &mut Once, kept: Option<&Possession>, now: i64) -> (u32, u32)
     ensures { TakesProof (option_map (λ p. p.now) kept.entry) now once.old result.0 result.1 once.new }
 {
     match kept {
-        Some(possession) => numbers_of(Ok(possession.take(once, now))),
+        Some(possession) => {
+            let before = possession.times().issued < once.opened();
+            numbers_of(Ok(possession.take(once, now)), before)
+        }
         None => (FOW_ABSENT, 0),
     }
 }

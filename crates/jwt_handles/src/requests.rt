@@ -1,11 +1,11 @@
 //! The token of a request, by the schemes Bearer and DPoP, and what is answered to it.
 
 ghost use Rattle.jwt_handles.specs.declared.status.TheConstants.{FOW_ABSENT, FOW_OK, FOW_REFUSED};
-ghost use Rattle.std.specs.Prelude.{◌≡◌, ◌≢◌, ◌≤◌, ◌↔◌, IsTrue, Some};
+ghost use Rattle.std.specs.Prelude.{◌≡◌, ◌≢◌, ◌≤◌, ◌↔◌, IsTrue, Some, nat_lt};
 ghost use Rattle.std.specs.List.{All};
 ghost use Rattle.jwt_request.specs.Replies.{IsReply};
 ghost use Rattle.jwt_request.specs.Challenges.{IsQuotable};
-ghost use Rattle.jwt_handles.specs.Requests.{IsAbsentBy, IsMalformedBy, IsOutcomeOfProof, IsTokenBy, challenge_of, outcome_of, reply_of, scheme_of, schemes_of, text_by};
+ghost use Rattle.jwt_handles.specs.Requests.{IsAbsentBy, IsMalformedBy, IsOutcomeOfProof, IsOutcomeOfTaken, IsTokenBy, challenge_of, outcome_of, reply_of, scheme_of, schemes_of, text_by};
 ghost use Rattle.jwt_handles.specs.Written.{Puts};
 
 use crate::status::{FOW_ABSENT, FOW_NOT_EXPECTED, FOW_OK, FOW_REFUSED, FOW_TOO_SHORT};
@@ -73,9 +73,17 @@ pub fn reply(schemes: u32, shown: u32, outcome: u32, reply: &mut FowReply)
 /// What an answer on the proof of a request makes of it: the outcome's number.
 pub fn proof_outcome(status: u32, fault: u32) -> u32
     ensures outcome { IsOutcomeOfProof status fault (outcome_of result) }
-    ensures known { result ≤ 10 }
+    ensures known { result ≤ 13 }
 {
     outcome_number(outcome_of_proof(status, fault))
+}
+
+/// What an answer on a token that counts once, or on a proof where `of_proof` isn't 0, makes of its request: the outcome's number.
+pub fn taken_outcome(of_proof: u32, status: u32, taken: u32) -> u32
+    ensures outcome { IsOutcomeOfTaken (nat_lt 0 of_proof) status taken (outcome_of result) }
+    ensures known { result ≤ 13 }
+{
+    outcome_number(outcome_of_taken(0 < of_proof, status, taken))
 }
 
 /// Whether a realm, a scope or the names of algorithms can be quoted as they are.
@@ -131,10 +139,12 @@ pub fn challenge(it: NumberedChallenge<'_>, out: &mut [u8], written: &mut usize)
     }
 }
 
-/// The numbers of two faults of a proof: its nonce, or the key that its token is bound to, is another.
+/// The numbers of faults of a proof: its nonce, or the key that its token is bound to, is another; the path of its request can be read in more ways than one.
 const OTHER_NONCE: u32 = 1303;
 
 const OTHER_KEY: u32 = 1305;
+
+const PATH_FORM: u32 = 1306;
 
 fn outcome_of_proof(status: u32, fault: u32) -> Outcome
     ensures { IsOutcomeOfProof status fault result }
@@ -154,7 +164,30 @@ fn outcome_of_proof(status: u32, fault: u32) -> Outcome
     if fault == OTHER_KEY {
         return Outcome::Refused;
     }
+    if fault == PATH_FORM {
+        return Outcome::PathForm;
+    }
     Outcome::ProofRefused
+}
+
+fn outcome_of_taken(of_proof: bool, status: u32, taken: u32) -> Outcome
+    ensures { IsOutcomeOfTaken of_proof status taken result }
+{
+    if status == FOW_OK {
+        return Outcome::Accepted;
+    }
+    if status != FOW_REFUSED {
+        return Outcome::Unanswered;
+    }
+    match taken {
+        4 => Outcome::MemoryFull,
+        8 => Outcome::ShareUsedUp,
+        _ => if of_proof {
+            Outcome::ProofRefused
+        } else {
+            Outcome::Refused
+        },
+    }
 }
 
 fn scheme_at(number: u32) -> Option<Scheme>
@@ -199,13 +232,16 @@ fn outcome_at(number: u32) -> Outcome
         8 => Outcome::KeysTooOld,
         9 => Outcome::ProofRefused,
         10 => Outcome::NonceWanted,
+        11 => Outcome::PathForm,
+        12 => Outcome::ShareUsedUp,
+        13 => Outcome::MemoryFull,
         _ => Outcome::Unanswered,
     }
 }
 
 fn outcome_number(outcome: Outcome) -> u32
     ensures outcome { outcome_of result ≡ outcome }
-    ensures known { result ≤ 10 }
+    ensures known { result ≤ 13 }
 {
     match outcome {
         Outcome::Unanswered => 0,
@@ -219,6 +255,9 @@ fn outcome_number(outcome: Outcome) -> u32
         Outcome::KeysTooOld => 8,
         Outcome::ProofRefused => 9,
         Outcome::NonceWanted => 10,
+        Outcome::PathForm => 11,
+        Outcome::ShareUsedUp => 12,
+        Outcome::MemoryFull => 13,
     }
 }
 

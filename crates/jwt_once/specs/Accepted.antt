@@ -40,20 +40,25 @@ mark_in claims jti = mark_of (issuer_in claims) jti
 abbrev pub owner_in : Members → Option (List ℕ)
 owner_in claims = option_map (λ subject. mark_of (issuer_in claims) subject) (text_at (codes "sub") claims)
 
--- how a token with this `jti` and this `exp` is held: what it lacks where either is absent, NoId first
-abbrev pub IsEntryWith : Settings → Members → Result Entry Lack → Option (List ℕ) → Option ℤ → Type 0
-IsEntryWith policy claims entry None exp = entry ≡ Err NoId
-IsEntryWith policy claims entry (Some jti) None = entry ≡ Err NoEnd
-IsEntryWith policy claims entry (Some jti) (Some exp) =
-    (held : Entry) × (entry ≡ Ok held) × (held.mark ≡ mark_in claims jti) × (held.owner ≡ owner_in claims) × (held.times ≡ times_of policy claims exp)
-
--- how the token of claims that were accepted under this policy is held
-abbrev pub IsEntryOf : Settings → Members → Result Entry Lack → Type 0
-IsEntryOf policy claims entry = IsEntryWith policy claims entry (text_at (codes "jti") claims) (whole_at (codes "exp") claims)
-
 -- it was issued later than now, the leeway added
 abbrev pub is_ahead : Settings → Members → ℤ → Bool
 is_ahead policy claims now = some_passes (is_later now policy.claims.leeway) (whole_at (codes "iat") claims)
+
+-- how a token with this `jti` and this `exp` is held: not at all where it was issued later
+abbrev pub IsEntryUnless : (ahead : Bool) → Settings → Members → Result Entry Lack → List ℕ → ℤ → Type 0
+IsEntryUnless true policy claims entry jti exp = entry ≡ Err Ahead
+IsEntryUnless false policy claims entry jti exp =
+    (held : Entry) × (entry ≡ Ok held) × (held.mark ≡ mark_in claims jti) × (held.owner ≡ owner_in claims) × (held.times ≡ times_of policy claims exp)
+
+-- nor where either is absent, and NoId is said first
+abbrev pub IsEntryWith : Settings → Members → ℤ → Result Entry Lack → Option (List ℕ) → Option ℤ → Type 0
+IsEntryWith policy claims now entry None exp = entry ≡ Err NoId
+IsEntryWith policy claims now entry (Some jti) None = entry ≡ Err NoEnd
+IsEntryWith policy claims now entry (Some jti) (Some exp) = IsEntryUnless (is_ahead policy claims now) policy claims entry jti exp
+
+-- how the token of claims that were accepted under this policy at this moment is held
+abbrev pub IsEntryOf : Settings → Members → ℤ → Result Entry Lack → Type 0
+IsEntryOf policy claims now entry = IsEntryWith policy claims now entry (text_at (codes "jti") claims) (whole_at (codes "exp") claims)
 
 -- with this `jti` and this `exp`: nothing happens where it was issued later
 abbrev pub IsTakenUnless : (ahead : Bool) → Settings → Members → ℤ → Once → Result Taken Lack → Once → List ℕ → ℤ → Type 0

@@ -76,7 +76,7 @@ abbrev pub IssuedBefore : Type 0
 IssuedBefore = (policy : Settings) (claims : Members) (accepted : ℤ)
     → ((iat : ℤ) → whole_at (codes "iat") claims ≡ Some iat → iat ≤ℤ (accepted +ℤ pos policy.claims.leeway)) → issued_of policy claims ≤ seconds accepted
 
--- So claims that were taken before a memory was opened, at a moment at which they weren't issued later, are never New in it, whatever the policy.
+-- So claims that were taken before a memory was opened, at a moment at which they weren't issued later, are never New in it, whatever the policy that both calls have.
 abbrev pub NewSince : Type 0
 NewSince = (policy : Settings) (claims : Members) (accepted : ℤ) (call : Call) (old new : Once) → is_ahead policy claims accepted ≡ false → IsCallFor policy claims call
     → IsTaken old call.mark call.owner call.times call.now call.answer new → seconds accepted < old.opened → call.answer ≡ Late

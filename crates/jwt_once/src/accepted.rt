@@ -89,28 +89,6 @@ pub fn owner_in(claims: &Claims) -> Option<[u8; 32]>
     Some(owner_of(issuer_in(claims).as_bytes(), subject.as_bytes()))
 }
 
-/// How the token of these claims is held, which were accepted under this policy: by `iss`, the empty text where there is none, and `jti`, by its moment
-/// `exp` and the policy's leeway behind it.
-///
-/// # Errors
-/// What the claims lack.
-pub fn entry_of(policy: &Policy, claims: &Claims) -> Result<Entry, Lack>
-    ensures { IsEntryOf policy.now claims.now result }
-{
-    let Some(jti) = claims.jti() else {
-        return Err(Lack::NoId);
-    };
-    let Some(exp) = claims.exp() else {
-        return Err(Lack::NoEnd);
-    };
-    Ok(Entry::of(
-        issuer_in(claims).as_bytes(),
-        jti.as_bytes(),
-        owner_in(claims),
-        times_of(policy, claims, exp),
-    ))
-}
-
 /// Whether the claims were issued later than now, the leeway added.
 fn is_ahead(policy: &Policy, claims: &Claims, now: i64) -> bool
     ensures { result ≡ is_ahead policy.now claims.now now }
@@ -119,6 +97,31 @@ fn is_ahead(policy: &Policy, claims: &Claims, now: i64) -> bool
         Some(iat) => i128::from(now) + i128::from(policy.leeway()) < i128::from(iat),
         None => false,
     }
+}
+
+/// How the token of these claims is held, which were accepted under this policy at this moment: by `iss`, the empty text where there is none, and `jti`, by its moment
+/// `exp` and the policy's leeway behind it.
+///
+/// # Errors
+/// What the claims lack.
+pub fn entry_of(policy: &Policy, claims: &Claims, now: i64) -> Result<Entry, Lack>
+    ensures { IsEntryOf policy.now claims.now now result }
+{
+    let Some(jti) = claims.jti() else {
+        return Err(Lack::NoId);
+    };
+    let Some(exp) = claims.exp() else {
+        return Err(Lack::NoEnd);
+    };
+    if is_ahead(policy, claims, now) {
+        return Err(Lack::Ahead);
+    }
+    Ok(Entry::of(
+        issuer_in(claims).as_bytes(),
+        jti.as_bytes(),
+        owner_in(claims),
+        times_of(policy, claims, exp),
+    ))
 }
 
 impl Once {
@@ -136,10 +139,7 @@ impl Once {
     ) -> Result<Taken, Lack>
         ensures { IsTakenFor policy.now claims.now now self.old result self.new }
     {
-        let entry = entry_of(policy, claims)?;
-        if is_ahead(policy, claims, now) {
-            return Err(Lack::Ahead);
-        }
+        let entry = entry_of(policy, claims, now)?;
         Ok(self.take_mark(entry.mark, entry.owner, entry.times, seconds(now)))
     }
 }

@@ -18,13 +18,14 @@ use Rattle.jwt_verify.specs.declared.report.Fault.{Fault}
 use Rattle.jwt_verify.specs.declared.report.Verdict.TheVariants.{Accepted, Refused}
 use Rattle.jwt_possession.specs.declared.own_key.KeyFault.{KeyFault}
 use Rattle.jwt_possession.specs.declared.own_key.KeyFault.TheVariants as key_fault
-use Rattle.jwt_possession.specs.declared.proof.ProofFault.TheVariants.{NoToken, NoKey, NotAccepted, OtherRequest, OutOfMemory}
+use Rattle.jwt_possession.specs.declared.proof.ProofFault.TheVariants.{NoToken, NoKey, OtherKey, NotAccepted, OtherRequest, OutOfMemory}
 use Rattle.jwt_possession.specs.declared.request.Request.{Request}
 use Rattle.jwt_possession.specs.declared.request.RequestFault.{RequestFault}
 use Rattle.jwt_possession.specs.Bindings.{bound_key, digest_text}
 use Rattle.jwt_possession.specs.HeaderKey.{header_key_of}
 use Rattle.jwt_possession.specs.Laws.{ProofsHaveNoFault}
 use Rattle.jwt_possession.specs.Proofs.{terms_with, HasOwnKey, IsKeyFault}
+use Rattle.jwt_possession.specs.Paths.{has_agreed_path}
 use Rattle.jwt_possession.specs.Requests.{IsForRequest, is_text, is_nonce, is_access, is_key, request_rows}
 use Rattle.jwt_possession.specs.Uris.{normal_uri, same_uri}
 use Rattle.jwt_possession.proofs.Policies.{FailsEach}
@@ -54,7 +55,7 @@ rows_fail (row ∷ rows) fails = rw fails.0 (rows_fail rows fails.1)
 uri_is : (uri : List ℕ) (o : Option (List ℕ)) (htu normal : List ℕ) → o ≡ Some htu → normal_uri htu ≡ Some normal → normal_uri uri ≡ Some normal → some_passes (same_uri uri) o ≡ true
 uri_is uri o htu normal is one two = rw is (one_form uri htu normal two one)
 
-pub no_row : (claims : Members) (request : Request) (thumbprint : List ℕ) → IsForRequest claims request thumbprint → first_row (request_rows claims request thumbprint) ≡ None
+pub no_row : (claims : Members) (request : Request) (thumbprint : List ℕ) → IsForRequest claims request thumbprint → first_row (request_rows claims request) ≡ None
 no_row claims request thumbprint h =
     let method = is_that (text_at (codes "htm") claims) request.method.now h.method in
     let uri = uri_is request.uri.now (text_at (codes "htu") claims) h.uri.0 h.uri.1 h.uri.2 h.uri.3 h.uri.4 in
@@ -62,21 +63,27 @@ no_row claims request thumbprint h =
     (λ nonce is. is_that (text_at (codes "nonce") claims) nonce.now is) request.nonce h.nonce in
     let access = if_there (λ access. is_text (codes "ath") claims (digest_text access.token.now)) (λ access. text_at (codes "ath") claims ≡ Some (digest_text access.token.now))
     (λ access is. is_that (text_at (codes "ath") claims) (digest_text access.token.now) is) request.access h.access in
-    let key = if_there (λ access. some_passes (λ text. bytes_eq text thumbprint) (bound_key access.claims.now)) (λ access. bound_key access.claims.now ≡ Some thumbprint)
-    (λ access is. is_that (bound_key access.claims.now) thumbprint is) request.access h.key in
-    rows_fail (request_rows claims request thumbprint) (
+    rows_fail (request_rows claims request) (
       off (is_text (codes "htm") claims request.method.now) method,
       (
-        off (some_passes (same_uri request.uri.now) (text_at (codes "htu") claims)) uri,
+        off (has_agreed_path request.uri.now) h.path,
         (
-          off (is_nonce claims request) nonce,
+          off (some_passes (same_uri request.uri.now) (text_at (codes "htu") claims)) uri,
           (
-            off (is_access claims request) access,
-            (off (is_key request thumbprint) key, tt),
+            off (is_nonce claims request) nonce,
+            (
+              off (is_access claims request) access,
+              tt,
+            ),
           ),
         ),
       ),
     )
+
+is_bound : (claims : Members) (request : Request) (thumbprint : List ℕ) → IsForRequest claims request thumbprint → is_key request thumbprint ≡ true
+is_bound claims request thumbprint h =
+    if_there (λ access. some_passes (λ text. bytes_eq text thumbprint) (bound_key access.claims.now)) (λ access. bound_key access.claims.now ≡ Some thumbprint)
+    (λ access is. is_that (bound_key access.claims.now) thumbprint is) request.access h.key
 
 -- ---- there is one token, one key and one verdict
 
@@ -123,11 +130,10 @@ not_refused accepts refuses terms octets ceiling s k claims fault h g =
     let both : Accepted s k claims ≡ Refused fault = sym ((accepts terms octets ceiling s k claims).1 h) ∙ (refuses terms octets ceiling fault).1 g in
     absurd cc
 
-no_other_request : (claims others : Members) (request : Request) (thumbprint other : List ℕ) (fault : RequestFault) → claims ≡ others → thumbprint ≡ other
-    → IsForRequest claims request thumbprint → ¬ (first_row (request_rows others request other) ≡ Some fault)
-no_other_request claims others request thumbprint other fault same alike h g =
-    let none : first_row (request_rows others request other) ≡ None =
-    subst (λ (t : List ℕ). first_row (request_rows others request t) ≡ None) alike (subst (λ (ms : Members). first_row (request_rows ms request thumbprint) ≡ None) same (no_row claims request thumbprint h)) in
+no_other_request : (claims others : Members) (request : Request) (thumbprint : List ℕ) (fault : RequestFault) → claims ≡ others
+    → IsForRequest claims request thumbprint → ¬ (first_row (request_rows others request) ≡ Some fault)
+no_other_request claims others request thumbprint fault same h g =
+    let none : first_row (request_rows others request) ≡ None = subst (λ (ms : Members). first_row (request_rows ms request) ≡ None) same (no_row claims request thumbprint h) in
     let both : None ≡ Some fault = sym none ∙ g in
     absurd cc
 
@@ -137,15 +143,20 @@ no_fault tells faults accepts refuses policy verifiers now request octets key cl
 no_fault tells faults accepts refuses policy verifiers now request octets key claims (NoKey fault) h of g =
     let it = g of in
     no_key_fault h.signed.token it.0 key fault (one_token tells policy octets h.signed.token it.0 h.signed.read it.1) h.signed.has_own_key it.2
+no_fault tells faults accepts refuses policy verifiers now request octets key claims OtherKey h of g =
+    let it = g in
+    let same = one_key h.signed.token it.0 key it.1 (one_token tells policy octets h.signed.token it.0 h.signed.read it.2) h.signed.has_own_key it.3 in
+    let both : true ≡ false = sym (is_bound claims request key.thumbprint h.for_request) ∙ ap (λ (k : KeyParts). is_key request k.thumbprint) same ∙ it.4 in
+    absurd cc
 no_fault tells faults accepts refuses policy verifiers now request octets key claims (NotAccepted fault) h of g =
     let it = g of in
     let same = one_key h.signed.token it.0 key it.1 (one_token tells policy octets h.signed.token it.0 h.signed.read it.2) h.signed.has_own_key it.3 in
     not_refused accepts refuses (terms_with policy key now verifiers) octets policy.run.work h.signed.signature_number h.signed.key_number claims fault h.signed.accepted
-    (subst (λ (k : KeyParts). IsFault (terms_with policy k now verifiers) octets policy.run.work fault) (sym same) it.4)
+    (subst (λ (k : KeyParts). IsFault (terms_with policy k now verifiers) octets policy.run.work fault) (sym same) it.5)
 no_fault tells faults accepts refuses policy verifiers now request octets key claims (OtherRequest fault) h of g =
     let other = g.2 in
     let same = one_key h.signed.token other.token key g.0 (one_token tells policy octets h.signed.token other.token h.signed.read other.read) h.signed.has_own_key other.has_own_key in
     let accepted = subst (λ (k : KeyParts). IsAccepted (terms_with policy k now verifiers) octets policy.run.work other.signature_number other.key_number g.1) (sym same) other.accepted in
     let alike = one_acceptance accepts (terms_with policy key now verifiers) octets policy.run.work h.signed.signature_number h.signed.key_number other.signature_number other.key_number claims g.1 h.signed.accepted accepted in
-    no_other_request claims g.1 request key.thumbprint g.0.thumbprint fault alike (ap (λ (k : KeyParts). k.thumbprint) same) h.for_request g.3
+    no_other_request claims g.1 request key.thumbprint fault alike h.for_request g.4
 no_fault tells faults accepts refuses policy verifiers now request octets key claims OutOfMemory h of g = of

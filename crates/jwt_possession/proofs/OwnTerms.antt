@@ -24,3 +24,7 @@ refused_fault terms octets ceiling work verdict fault is same told = subst (λ n
 pub own_fault : (policy : Settings) (now : ℤ) (verifiers : List Meaning) (octets : List ℕ) (ceiling : ℕ) (keys : List KeyParts) (key : KeyParts) (fault : Fault)
     → keys ≡ key ∷ [] → IsFault (by policy now verifiers keys) octets ceiling fault → IsFault (terms_with policy key now verifiers) octets ceiling fault
 own_fault policy now verifiers octets ceiling keys key fault one is = subst (λ ks. IsFault (by policy now verifiers ks) octets ceiling fault) one is
+
+pub own_accepted : (policy : Settings) (now : ℤ) (verifiers : List Meaning) (octets : List ℕ) (ceiling signature number : ℕ) (claims : Members) (keys : List KeyParts) (key : KeyParts)
+    → keys ≡ key ∷ [] → IsAccepted (by policy now verifiers keys) octets ceiling signature number claims → IsAccepted (terms_with policy key now verifiers) octets ceiling signature number claims
+own_accepted policy now verifiers octets ceiling signature number claims keys key one is = subst (λ ks. IsAccepted (by policy now verifiers ks) octets ceiling signature number claims) one is

@@ -9,6 +9,7 @@ use Rattle.jwt_text.specs.Rows.{first_row}
 use Rattle.jwt_policy.specs.Texts.{some_passes}
 use Rattle.jwt_possession.specs.Bindings.{bound_key, digest_text}
 use Rattle.jwt_possession.specs.Uris.{normal_uri, same_uri}
+use Rattle.jwt_possession.specs.Paths.{has_agreed_path}
 use Rattle.jwt_possession.specs.Requests.{IsForRequest, is_text, is_nonce, is_access, is_key, request_rows}
 use Rattle.jwt_possession.specs.declared.request.Request.{Request}
 use Rattle.jwt_possession.proofs.Policies.{fails_each, holds_of_not, text_is}
@@ -33,16 +34,17 @@ is_uri : (uri : List ℕ) (o : Option (List ℕ)) → some_passes (same_uri uri)
 is_uri uri None e = absurd cc
 is_uri uri (Some htu) e = let one = have_one_form uri htu (normal_uri uri) refl e in (htu, one.0, refl, one.1, one.2)
 
-pub for_request : (claims : Members) (request : Request) (thumbprint : List ℕ) → first_row (request_rows claims request thumbprint) ≡ None → IsForRequest claims request thumbprint
-for_request claims request thumbprint none =
-    let fails = fails_each (request_rows claims request thumbprint) none in
+pub for_request : (claims : Members) (request : Request) (thumbprint : List ℕ) → is_key request thumbprint ≡ true → first_row (request_rows claims request) ≡ None → IsForRequest claims request thumbprint
+for_request claims request thumbprint bound none =
+    let fails = fails_each (request_rows claims request) none in
     record {
       method = text_is (text_at (codes "htm") claims) request.method.now (holds_of_not (is_text (codes "htm") claims request.method.now) fails.0);
-      uri = is_uri request.uri.now (text_at (codes "htu") claims) (holds_of_not (some_passes (same_uri request.uri.now) (text_at (codes "htu") claims)) fails.1.0);
+      path = holds_of_not (has_agreed_path request.uri.now) fails.1.0;
+      uri = is_uri request.uri.now (text_at (codes "htu") claims) (holds_of_not (some_passes (same_uri request.uri.now) (text_at (codes "htu") claims)) fails.1.1.0);
       nonce = if_some (λ nonce. is_text (codes "nonce") claims nonce.now) (λ nonce. text_at (codes "nonce") claims ≡ Some nonce.now)
-          (λ nonce e. text_is (text_at (codes "nonce") claims) nonce.now e) request.nonce (holds_of_not (is_nonce claims request) fails.1.1.0);
+          (λ nonce e. text_is (text_at (codes "nonce") claims) nonce.now e) request.nonce (holds_of_not (is_nonce claims request) fails.1.1.1.0);
       access = if_some (λ access. is_text (codes "ath") claims (digest_text access.token.now)) (λ access. text_at (codes "ath") claims ≡ Some (digest_text access.token.now))
-          (λ access e. text_is (text_at (codes "ath") claims) (digest_text access.token.now) e) request.access (holds_of_not (is_access claims request) fails.1.1.1.0);
+          (λ access e. text_is (text_at (codes "ath") claims) (digest_text access.token.now) e) request.access (holds_of_not (is_access claims request) fails.1.1.1.1.0);
       key = if_some (λ access. some_passes (λ text. bytes_eq text thumbprint) (bound_key access.claims.now)) (λ access. bound_key access.claims.now ≡ Some thumbprint)
-          (λ access e. text_is (bound_key access.claims.now) thumbprint e) request.access (holds_of_not (is_key request thumbprint) fails.1.1.1.1.0);
+          (λ access e. text_is (bound_key access.claims.now) thumbprint e) request.access bound;
     }

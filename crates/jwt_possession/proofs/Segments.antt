@@ -1,6 +1,6 @@
 -- The segments of a path, one after the other.
-use Rattle.std.proofs.Common.{◌≡◌, ℕ, ◌+◌, ◌<◌, ◌≤◌, ◌==◌, Bool, true, false, cond, List, [], ◌∷◌, length, take, drop, refl, sym, ap, ◌∙◌, arith}
-use Rattle.std.specs.List.{slice_split, onto_first, position_or_len}
+use Rattle.std.proofs.Common.{◌≡◌, ℕ, ◌+◌, ◌<◌, ◌≤◌, ◌==◌, Bool, true, false, cond, ◌&&◌, List, [], ◌∷◌, length, take, drop, refl, sym, ap, ◌∙◌, arith}
+use Rattle.std.specs.List.{list_all, slice_split, onto_first, position_or_len}
 use Rattle.std.proofs.lemmas.List.Splits.{slice_split_first, slice_split_none}
 use Rattle.std.proofs.lemmas.List.Sums.{fails_before_first}
 use Rattle.std.proofs.lemmas.List.Elements.{All-from_get_or}
@@ -29,3 +29,21 @@ pub last_segment : (done : List (List ℕ)) (text : List ℕ) (at : ℕ) → at 
     → left done (slice_split (λ x. x == 47) text) ≡ ended done text
 last_segment done text at is end =
     ap (left done) (slice_split_none (λ x. x == 47) text (All-from_get_or (λ x. (x == 47) ≡ false) text 0 (λ i h. fails_before_first (λ x. x == 47) text i 0 (omega (arith, is, end, h)))))
+
+-- ---- a test of each
+
+and_true : (a : Bool) → (a && true) ≡ a
+and_true true = refl
+and_true false = refl
+
+pub next_part : (test : List ℕ → Bool) (text : List ℕ) (at : ℕ) → at ≡ position_or_len (λ x. x == 47) text → at < length text
+    → list_all test (slice_split (λ x. x == 47) text) ≡ (test (take at text) && list_all test (slice_split (λ x. x == 47) (drop (at + 1) text)))
+next_part test text at is less =
+    let within : position_or_len (λ x. x == 47) text < length text = omega (arith, is, less) in
+    rw is (ap (list_all test) (slice_split_first (λ x. x == 47) text 0 within))
+
+pub last_part : (test : List ℕ → Bool) (text : List ℕ) (at : ℕ) → at ≡ position_or_len (λ x. x == 47) text → length text ≤ at
+    → list_all test (slice_split (λ x. x == 47) text) ≡ test text
+last_part test text at is end =
+    ap (list_all test) (slice_split_none (λ x. x == 47) text (All-from_get_or (λ x. (x == 47) ≡ false) text 0 (λ i h. fails_before_first (λ x. x == 47) text i 0 (omega (arith, is, end, h)))))
+    ∙ and_true (test text)

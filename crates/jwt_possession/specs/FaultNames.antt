@@ -33,15 +33,16 @@ key_fault_name key.OutOfMemory = codes "OutOfMemory"
 
 abbrev pub request_fault_name : RequestFault → List ℕ
 request_fault_name request.OtherMethod = codes "OtherMethod"
+request_fault_name request.PathForm = codes "PathForm"
 request_fault_name request.OtherUri = codes "OtherUri"
 request_fault_name request.OtherNonce = codes "OtherNonce"
 request_fault_name request.OtherAccessToken = codes "OtherAccessToken"
-request_fault_name request.OtherKey = codes "OtherKey"
 
 -- that of the cause
 abbrev pub proof_fault_name : ProofFault → List ℕ
 proof_fault_name (proof.NoToken fault) = fault_name fault
 proof_fault_name (proof.NoKey fault) = key_fault_name fault
+proof_fault_name proof.OtherKey = codes "OtherKey"
 proof_fault_name (proof.NotAccepted fault) = fault_name fault
 proof_fault_name (proof.OtherRequest fault) = request_fault_name fault
 proof_fault_name proof.OutOfMemory = codes "OutOfMemory"

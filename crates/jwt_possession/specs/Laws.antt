@@ -1,5 +1,5 @@
 -- That no octets are a proof and have a fault, and that a proof is new once.
-use Rattle.std.specs.Prelude.{◌≡◌, ◌≢◌, ◌≤◌, ◌+◌, ℕ, ℤ, List, Some, None, codes}
+use Rattle.std.specs.Prelude.{◌≡◌, ◌≢◌, ◌≤◌, ◌+◌, ℕ, ℤ, List, Some, None, codes, true}
 use Rattle.serde_json.specs.Data.{Members}
 use Rattle.jwt_mac.specs.Verifying.{Meaning}
 use Rattle.jwt_keys.specs.Keys.{KeyParts}
@@ -11,12 +11,17 @@ use Rattle.jwt_once.specs.Accepted.{seconds}
 use Rattle.jwt_once.specs.Marks.{mark_of}
 use Rattle.jwt_once.specs.Laws.{Call, IsTakenTwice}
 use Rattle.jwt_possession.specs.Possessions.{id_of, proof_times}
+use Rattle.jwt_possession.specs.Uris.{decoded, normal_path}
+use Rattle.jwt_possession.specs.Paths.{is_normal_path}
+use Rattle.jwt_possession.specs.Shown.{IsShown, binding_rows}
+use Rattle.jwt_possession.specs.declared.binding.Shown.{Shown}
+use Rattle.jwt_text.specs.Rows.{first_row}
 use Rattle.jwt_verify.specs.Reports.{FoundMemory}
 use Rattle.jwt_verify.specs.declared.report.Fault.TheVariants as token_fault
 use Rattle.jwt_verify.specs.declared.report.Verdict.TheVariants.{Refused}
 use Rattle.jwt_possession.specs.declared.own_key.KeyFault.TheVariants as key_fault
 use Rattle.jwt_possession.specs.declared.proof.ProofFault.{ProofFault}
-use Rattle.jwt_possession.specs.declared.proof.ProofFault.TheVariants.{NoToken, NoKey, NotAccepted, OtherRequest, OutOfMemory}
+use Rattle.jwt_possession.specs.declared.proof.ProofFault.TheVariants.{NoToken, NoKey, OtherKey, NotAccepted, OtherRequest, OutOfMemory}
 use Rattle.jwt_possession.specs.declared.request.Request.{Request}
 use Rattle.jwt_possession.specs.Proofs.{IsProof, IsProofFault}
 
@@ -24,6 +29,7 @@ use Rattle.jwt_possession.specs.Proofs.{IsProof, IsProofFault}
 abbrev pub IsOfOctets : ProofFault → Type 0
 IsOfOctets (NoToken fault) = fault ≢ token_fault.OutOfMemory
 IsOfOctets (NoKey fault) = fault ≢ key_fault.OutOfMemory
+IsOfOctets OtherKey = Unit {0}
 IsOfOctets (NotAccepted fault) = FoundMemory (Refused fault)
 IsOfOctets (OtherRequest fault) = Unit {0}
 IsOfOctets OutOfMemory = ⊥
@@ -47,3 +53,11 @@ abbrev pub ProofsInTime : Type 0
 ProofsInTime = (policy : Settings) (claims : Members) (now iat : ℤ) (age : ℕ) → check_of policy claims now ≡ None → policy.claims.max_age ≡ Some age
     → whole_at (codes "iat") claims ≡ Some iat
     → (seconds now ≤ (proof_times policy claims).moment + (proof_times policy claims).grace) × ((proof_times policy claims).issued ≤ seconds now)
+
+-- a normal path is its own normal form: percent-decoding leaves it as it is, and so does taking away dot segments
+abbrev pub NormalPaths : Type 0
+NormalPaths = (path : List ℕ) → is_normal_path path ≡ true → (decoded path ≡ Some path) × (normal_path path ≡ path)
+
+-- where no row of the table holds, each way in which the claims are bound is shown
+abbrev pub AllShown : Type 0
+AllShown = (claims : Members) (shown : Shown) → first_row (binding_rows claims shown) ≡ None → IsShown claims shown

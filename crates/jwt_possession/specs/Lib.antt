@@ -6,8 +6,12 @@ pub mod ProofPolicies
 pub mod HeaderKey
 -- how an access token is bound
 pub mod Bindings
+-- each way in which an access token is bound is shown by its sender, and none is unknown
+pub mod Shown
 -- one form of each URI that begins with `http://` or `https://` and has a host, without query and fragment
 pub mod Uris
+-- paths of which every reader makes the same
+pub mod Paths
 -- what belongs to this request, and the steps of a proof's claims that need it
 pub mod Requests
 -- a proof of possession, and why a token is none

@@ -1,5 +1,5 @@
 -- A proof of possession (RFC 9449, section 4.3), and why a token is none.
-use Rattle.std.specs.Prelude.{◌≡◌, ◌≢◌, ℕ, ℤ, List, [], ◌∷◌, Some, Ok, Err, slice_get, length}
+use Rattle.std.specs.Prelude.{◌≡◌, ◌≢◌, true, false, ℕ, ℤ, List, [], ◌∷◌, Some, Ok, Err, slice_get, length}
 use Rattle.serde_json.specs.Data.{Members}
 use Rattle.jwt_text.specs.Rows.{first_row}
 use Rattle.jwt_mac.specs.Verifying.{Meaning}
@@ -17,10 +17,10 @@ use Rattle.jwt_possession.specs.declared.own_key.KeyFault.{KeyFault}
 use Rattle.jwt_possession.specs.declared.own_key.KeyFault.TheVariants as key_fault
 use Rattle.jwt_possession.specs.declared.own_key.KeyFault.TheVariants.{NotCompact}
 use Rattle.jwt_possession.specs.declared.proof.ProofFault.{ProofFault}
-use Rattle.jwt_possession.specs.declared.proof.ProofFault.TheVariants.{NoToken, NoKey, NotAccepted, OtherRequest, OutOfMemory}
+use Rattle.jwt_possession.specs.declared.proof.ProofFault.TheVariants.{NoToken, NoKey, OtherKey, NotAccepted, OtherRequest, OutOfMemory}
 use Rattle.jwt_possession.specs.declared.request.Request.{Request}
 use Rattle.jwt_possession.specs.HeaderKey.{header_key_of}
-use Rattle.jwt_possession.specs.Requests.{IsForRequest, request_rows}
+use Rattle.jwt_possession.specs.Requests.{IsForRequest, is_key, request_rows}
 
 -- the terms of the verdict on a proof: the key is the one in its own header, and no other
 abbrev pub terms_with : Settings → KeyParts → ℤ → List Meaning → Terms
@@ -63,11 +63,15 @@ abbrev pub IsProofFault : Settings → List Meaning → ℤ → Request → List
 IsProofFault policy verifiers now request octets (NoToken fault) = fault ≢ token_fault.OutOfMemory → IsTokenFault policy octets fault
 -- steps 2 and 7: it is one, and has no key of its own that may prove anything
 IsProofFault policy verifiers now request octets (NoKey fault) = fault ≢ key_fault.OutOfMemory → (token : Token) × IsToken policy octets token × IsKeyFault token fault
--- steps 3 to 6 and 11: it has one, and the policy doesn't accept it by that key
+-- step 12, its second part: the access token is bound to another key, or to none
+IsProofFault policy verifiers now request octets OtherKey = (token : Token) × (key : KeyParts) × IsToken policy octets token × HasOwnKey token key
+    × (is_key request key.thumbprint ≡ false)
+-- steps 3 to 6 and 11: it is that key, and the policy doesn't accept the proof by it
 IsProofFault policy verifiers now request octets (NotAccepted fault) = FoundMemory (Refused fault)
-    → (token : Token) × (key : KeyParts) × IsToken policy octets token × HasOwnKey token key × IsFault (terms_with policy key now verifiers) octets policy.run.work fault
--- steps 8 to 10 and 12: it is accepted, and for another request
+    → (token : Token) × (key : KeyParts) × IsToken policy octets token × HasOwnKey token key
+    × (is_key request key.thumbprint ≡ true) × IsFault (terms_with policy key now verifiers) octets policy.run.work fault
+-- steps 8 to 10, and 12, its first part: it is accepted, and for another request
 IsProofFault policy verifiers now request octets (OtherRequest fault) = (key : KeyParts) × (claims : Members) × IsSignedByOwnKey policy verifiers now octets key claims
-    × (first_row (request_rows claims request key.thumbprint) ≡ Some fault)
+    × (is_key request key.thumbprint ≡ true) × (first_row (request_rows claims request) ≡ Some fault)
 -- an allocation was refused
 IsProofFault policy verifiers now request octets OutOfMemory = Unit {0}

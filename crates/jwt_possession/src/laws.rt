@@ -1,6 +1,6 @@
 //! Laws of the definitions: each function does nothing, and its contract holds of all octets.
 
-ghost use Rattle.jwt_possession.specs.Laws.{NoProofTwice, ProofsHaveNoFault, ProofsInTime};
+ghost use Rattle.jwt_possession.specs.Laws.{AllShown, NoProofTwice, NormalPaths, ProofsHaveNoFault, ProofsInTime};
 ghost use Rattle.jwt_possession.specs.UriLaws.{NoDots, NormalExamples, NormalIsNormal, SameAsItsNormal, SameBothWays, SameByParts, SameThroughout};
 
 use jwt_once::laws::{issued_before, never_twice};
@@ -50,4 +50,14 @@ pub fn same_by_parts()
 /// The examples of RFC 3986 have the normal forms that it says.
 pub fn examples_of_normal_uris()
     ensures { NormalExamples }
+{}
+
+/// A normal path is its own normal form.
+pub fn normal_paths()
+    ensures { NormalPaths }
+{}
+
+/// Where [`first_unshown`](crate::first_unshown) answers none, each way in which the token is bound is shown, and none is unknown.
+pub fn all_shown()
+    ensures { AllShown }
 {}

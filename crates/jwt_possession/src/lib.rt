@@ -29,15 +29,17 @@ mod binding;
 pub mod laws;
 mod nonces;
 mod own_key;
+mod path;
 mod policy;
 mod possession;
 mod proof;
 mod request;
 mod uri;
 
-pub use binding::{Binding, certificate_holds};
+pub use binding::{Binding, BindingFault, Shown, certificate_holds, first_unshown};
 pub use nonces::{NONCE_LEN, NONCE_SECRET_LEN, Nonces};
 pub use own_key::KeyFault;
+pub use path::{has_agreed_path, is_normal_path};
 pub use policy::{PolicyLack, ProofPolicy, ProofPolicyFault};
 pub use possession::Possession;
 pub use proof::{ProofFault, judge_proof};

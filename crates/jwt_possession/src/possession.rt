@@ -1,12 +1,13 @@
 //! What a proof that was accepted says.
 
-ghost use Rattle.std.specs.Prelude.{◌≡◌, IfOk};
+ghost use Rattle.std.specs.Prelude.{◌≡◌, IfOk, option_map};
 ghost use Rattle.jwt_once.specs.Accepted.{seconds};
 ghost use Rattle.jwt_once.specs.Steps.{IsTaken};
-ghost use Rattle.jwt_possession.specs.Possessions.{proof_times};
+ghost use Rattle.jwt_possession.specs.Possessions.{owner_beside, proof_times};
 
 use crate::policy::ProofPolicy;
-use jwt_once::{Entry, Once, Taken, Times, issued_of, owner_of};
+use crate::request::Access;
+use jwt_once::{Entry, Once, Taken, Times, issued_of, owner_in, owner_of};
 use jwt_policy::Claims;
 use std::alloc::{AllocError, Global};
 
@@ -15,6 +16,7 @@ use std::alloc::{AllocError, Global};
 pub struct Possession {
     pub(crate) thumbprint: String,
     pub(crate) claims: Claims,
+    pub(crate) owner: Option<[u8; 32]>,
     pub(crate) times: Times,
 }
 
@@ -34,6 +36,16 @@ fn proof_times(policy: &ProofPolicy, claims: &Claims) -> Times
     }
 }
 
+/// Whose a proof by the key of this thumbprint is, beside this access token.
+fn owner_beside(access: Option<Access<'_>>, thumbprint: &str) -> Option<[u8; 32]>
+    ensures { result ≡ owner_beside (option_map (λ a. a.claims.now) access.entry) thumbprint.now }
+{
+    match access {
+        Some(access) => owner_in(access.claims),
+        None => Some(owner_of(thumbprint.as_bytes(), b"")),
+    }
+}
+
 /// A moment as the memory counts.
 pub(crate) fn seconds(moment: i64) -> u64
     ensures { result ≡ seconds moment }
@@ -42,24 +54,28 @@ pub(crate) fn seconds(moment: i64) -> u64
 }
 
 impl Possession {
-    ghost use Rattle.jwt_possession.specs.Possessions.{proved, id_of, proof_mark, proof_owner};
+    ghost use Rattle.jwt_possession.specs.Possessions.{proved, id_of, proof_mark};
 
-    /// The possession of the key of this thumbprint, by a proof with these claims.
+    /// The possession of the key of this thumbprint, by a proof with these claims that came with this access token.
     pub(crate) fn of(
         alloc: Global,
         thumbprint: &str,
         claims: Claims,
+        access: Option<Access<'_>>,
         policy: &ProofPolicy,
     ) -> Result<Possession, AllocError>
         ensures thumbprint { IfOk result (λ p. (proved p).thumbprint ≡ thumbprint.now) }
         ensures claims { IfOk result (λ p. (proved p).claims ≡ claims) }
+        ensures owner { IfOk result (λ p. (proved p).owner ≡ owner_beside (option_map (λ a. a.claims.now) access.entry) thumbprint.now) }
         ensures times { IfOk result (λ p. (proved p).times ≡ proof_times policy.now claims) }
     {
         let times = proof_times(policy, &claims);
+        let owner = owner_beside(access, thumbprint);
         let thumbprint = String::from_str(alloc, thumbprint)?;
         Ok(Possession {
             thumbprint,
             claims,
+            owner,
             times,
         })
     }
@@ -85,11 +101,12 @@ impl Possession {
         self.claims.jti().unwrap_or("")
     }
 
-    /// Whose the proof is: its key's. So nobody's proofs take more than a share of a memory, whatever `jti` they have.
-    pub fn owner(&self) -> [u8; 32]
-        ensures { result ≡ proof_owner (proved self.now) }
+    /// Whose the proof is: as the access token that came with it, by [`jwt_once::owner_in`], or its key's where none came. A key costs nothing, so that whoever
+    /// has a token could make an owner for each proof.
+    pub fn owner(&self) -> Option<[u8; 32]>
+        ensures { result ≡ (proved self.now).owner }
     {
-        owner_of(self.thumbprint().as_bytes(), b"")
+        self.owner
     }
 
     /// Its times: its own moment is `iat`, whatever the policy; its grace is the policy's greatest age and leeway.
@@ -100,36 +117,27 @@ impl Possession {
     }
 
     /// Takes the proof, unless it was taken before (RFC 9449, section 11.1): by the thumbprint of its key and its `jti`, by its
-    /// times, with its key's share. `now` is the moment at which it was judged.
+    /// times, with its owner's share. `now` is the moment at which it was judged.
     pub fn take(&self, once: &mut Once, now: i64) -> Taken
-        ensures { IsTaken once.old (proof_mark (proved self.now)) (Some (proof_owner (proved self.now))) (proved self.now).times (seconds now) result once.new }
-    {
-        self.take_as(once, Some(self.owner()), now)
-    }
-
-    /// Takes the proof with this owner's share. Beside an access token that is the token's, by [`jwt_once::owner_in`]: whoever has a token can have as many
-    /// keys as tokens are given out, and no more subjects.
-    pub fn take_as(&self, once: &mut Once, owner: Option<[u8; 32]>, now: i64) -> Taken
-        ensures { IsTaken once.old (proof_mark (proved self.now)) owner (proved self.now).times (seconds now) result once.new }
+        ensures { IsTaken once.old (proof_mark (proved self.now)) (proved self.now).owner (proved self.now).times (seconds now) result once.new }
     {
         once.take(
             self.thumbprint().as_bytes(),
             self.id().as_bytes(),
-            owner,
+            self.owner(),
             self.times(),
             seconds(now),
         )
     }
 
     /// How the proof is held, for a store that several processes share: by the very mark by which [`Possession::take`] holds it, with the same
-    /// times. The store says in one step that the mark is new, and holds it until then.
+    /// owner and times. The store says in one step that the mark is new, and holds it until then.
     pub fn entry(&self) -> Entry
         ensures mark { result.mark ≡ proof_mark (proved self.now) }
-        ensures owner { result.owner ≡ Some (proof_owner (proved self.now)) }
+        ensures owner { result.owner ≡ (proved self.now).owner }
         ensures times { result.times ≡ (proved self.now).times }
     {
         let thumbprint = self.thumbprint().as_bytes();
-        let owner = Some(self.owner());
-        Entry::of(thumbprint, self.id().as_bytes(), owner, self.times())
+        Entry::of(thumbprint, self.id().as_bytes(), self.owner(), self.times())
     }
 }

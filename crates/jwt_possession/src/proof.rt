@@ -1,6 +1,6 @@
 //! Judges a proof of possession.
 
-ghost use Rattle.std.specs.Prelude.{◌≡◌, ◌∷◌, [], List, ℕ, map, IfOk, IfErr};
+ghost use Rattle.std.specs.Prelude.{◌≡◌, ◌∷◌, [], List, ℕ, map, option_map, true, IfOk, IfErr};
 ghost use Rattle.jwt_jws.specs.Views.{token};
 ghost use Rattle.jwt_keys.specs.Keys.{KeyParts};
 ghost use Rattle.jwt_keys.specs.KeySets.{key_set};
@@ -8,14 +8,14 @@ ghost use Rattle.jwt_verify.specs.Asks.{IsToken};
 ghost use Rattle.jwt_verify.specs.Accepted.{IsAccepted, IsFault};
 ghost use Rattle.jwt_verify.specs.Reports.{FoundMemory, terms};
 ghost use Rattle.jwt_verify.specs.declared.report.Verdict.TheVariants.{Refused};
-ghost use Rattle.jwt_possession.specs.Possessions.{proved, proof_times};
+ghost use Rattle.jwt_possession.specs.Possessions.{owner_beside, proved, proof_times};
 ghost use Rattle.jwt_possession.specs.Proofs.{IsSignedByOwnKey, IsProof, IsProofFault};
-ghost use Rattle.jwt_possession.specs.declared.request.Request.{Request as AnyRequest};
+ghost use Rattle.jwt_possession.specs.Requests.{is_key};
 
 use crate::own_key::{KeyFault, own_key};
 use crate::policy::ProofPolicy;
 use crate::possession::Possession;
-use crate::request::{Request, RequestFault, request_fault};
+use crate::request::{Request, RequestFault, is_key, request_fault};
 use jwt_jws::Signed;
 use jwt_keys::KeySet;
 use jwt_mac::Verifier;
@@ -31,10 +31,12 @@ pub enum ProofFault<'p> {
     NoToken(Fault<'p>),
     /// It isn't in compact form, or its header has no key that may prove anything (steps 2, 6 and 7).
     NoKey(KeyFault),
+    /// An access token came with it that is bound to another key, or to none (step 12).
+    OtherKey,
     /// The policy for proofs doesn't accept it by that key: its header, its signature, a claim that is absent or of another kind, or `iat`
     /// (steps 3 to 6 and 11).
     NotAccepted(Fault<'p>),
-    /// It is for another request (steps 8 to 10 and 12).
+    /// It is for another request, or came with another access token (steps 8 to 10 and 12).
     OtherRequest(RequestFault),
     /// An allocation was refused. It may stand in place of any other answer.
     OutOfMemory,
@@ -50,6 +52,7 @@ impl<'p> ProofFault<'p> {
         match self {
             ProofFault::NoToken(fault) => fault.name(),
             ProofFault::NoKey(fault) => fault.name(),
+            ProofFault::OtherKey => "OtherKey",
             ProofFault::NotAccepted(fault) => fault.name(),
             ProofFault::OtherRequest(fault) => fault.name(),
             ProofFault::OutOfMemory => "OutOfMemory",
@@ -106,18 +109,21 @@ struct Own {
     claims: Claims,
 }
 
-/// The token that the octets are, accepted by the key in its own header.
+/// The token that the octets are, accepted by the key in its own header. Where an access token came, it is bound to that key: this is looked at before the
+/// signature, so that a proof of a key that has no token here costs no verification.
 fn signed_by_own_key<'p>(
     alloc: Global,
     proof: &[u8],
+    request: &Request<'_>,
     policy: &'p Policy,
     now: i64,
     verifiers: &[Box<dyn Verifier>],
 ) -> Result<Own, ProofFault<'p>>
     ensures own { IfOk result (λ own. (key : KeyParts) × ((key_set own.keys).keys ≡ key ∷ [])
-        × IsSignedByOwnKey policy.now (map meaning verifiers.now) now proof.now key own.claims) }
-    ensures fault { IfErr result (λ fault. (request : AnyRequest)
-        → IsProofFault policy.now (map meaning verifiers.now) now request proof.now fault) }
+        × IsSignedByOwnKey policy.now (map meaning verifiers.now) now proof.now key own.claims
+        × (is_key request.now key.thumbprint ≡ true)) }
+    ensures fault { IfErr result (IsProofFault policy.now (map meaning verifiers.now) now
+        request.now proof.now) }
 {
     let signed = match read_token(alloc, proof, policy) {
         Ok(signed) => signed,
@@ -127,6 +133,9 @@ fn signed_by_own_key<'p>(
         Ok(keys) => keys,
         Err(fault) => return Err(ProofFault::NoKey(fault)),
     };
+    if !is_key(request, thumbprint_of(&keys)) {
+        return Err(ProofFault::OtherKey);
+    }
     let claims = match accepted_by(alloc, &signed, &keys, policy, now, verifiers) {
         Ok(claims) => claims,
         Err(fault) => return Err(ProofFault::NotAccepted(fault)),
@@ -152,8 +161,8 @@ fn thumbprint_of(keys: &KeySet) -> &str
 /// those of a key in a key set.
 ///
 /// # Errors
-/// The first that holds of `NoToken`, `NoKey`, `NotAccepted` and `OtherRequest`. `OutOfMemory` comes where an allocation was refused, by
-/// itself or as that of the first three, in place of any other answer.
+/// The first that holds of `NoToken`, `NoKey`, `OtherKey`, `NotAccepted` and `OtherRequest`. `OutOfMemory` comes where an allocation was refused, by
+/// itself or as that of `NoToken`, `NoKey` and `NotAccepted`, in place of any other answer.
 pub fn judge_proof<'p>(
     alloc: Global,
     proof: &[u8],
@@ -165,6 +174,8 @@ pub fn judge_proof<'p>(
     ensures proof { IfOk result (λ p. (key : KeyParts) × ((proved p).thumbprint ≡ key.thumbprint)
         × IsProof policy.now (map meaning verifiers.now) now request.now proof.now key
         (proved p).claims) }
+    ensures owner { IfOk result (λ p. (proved p).owner
+        ≡ owner_beside (option_map (λ a. a.claims.now) request.now.access) (proved p).thumbprint) }
     ensures times { IfOk result (λ p. (proved p).times ≡ proof_times policy.now (proved p).claims) }
     ensures fault { IfErr result (IsProofFault policy.now (map meaning verifiers.now) now request.now
         proof.now) }
@@ -172,6 +183,7 @@ pub fn judge_proof<'p>(
     let Own { keys, claims } = match signed_by_own_key(
         alloc,
         proof,
+        request,
         policy.policy(),
         now,
         verifiers,
@@ -179,12 +191,12 @@ pub fn judge_proof<'p>(
         Ok(own) => own,
         Err(fault) => return Err(fault),
     };
-    match request_fault(alloc, &claims, request, thumbprint_of(&keys)) {
+    match request_fault(alloc, &claims, request) {
         Ok(None) => {}
         Ok(Some(fault)) => return Err(ProofFault::OtherRequest(fault)),
         Err(_) => return Err(ProofFault::OutOfMemory),
     }
-    match Possession::of(alloc, thumbprint_of(&keys), claims, policy) {
+    match Possession::of(alloc, thumbprint_of(&keys), claims, request.access, policy) {
         Ok(possession) => Ok(possession),
         Err(_) => Err(ProofFault::OutOfMemory),
     }

@@ -8,6 +8,7 @@ ghost use Rattle.jwt_possession.specs.Uris.{same_uri};
 ghost use Rattle.jwt_possession.specs.Requests.{is_text, is_nonce, is_access, is_key, request_rows};
 
 use crate::binding::{Binding, digest_text};
+use crate::path::has_agreed_path;
 use crate::uri::same_uri;
 use jwt_policy::Claims;
 use std::alloc::{AllocError, Global};
@@ -40,14 +41,14 @@ pub struct Request<'a> {
 pub enum RequestFault {
     /// `htm` is absent, no text, or another method.
     OtherMethod,
+    /// The path of the request's URI is none of which every reader makes the same, so nobody can say for which the proof is.
+    PathForm,
     /// `htu` is absent, no text, has no normal form, or another than the request's URI; or that has none.
     OtherUri,
     /// A nonce was asked for, and `nonce` is absent, no text, or another.
     OtherNonce,
     /// An access token came with the proof, and `ath` is absent, no text, or the hash of another.
     OtherAccessToken,
-    /// An access token came with the proof, and it is bound to no key, or to another.
-    OtherKey,
 }
 
 impl RequestFault {
@@ -59,10 +60,10 @@ impl RequestFault {
     {
         match self {
             RequestFault::OtherMethod => "OtherMethod",
+            RequestFault::PathForm => "PathForm",
             RequestFault::OtherUri => "OtherUri",
             RequestFault::OtherNonce => "OtherNonce",
             RequestFault::OtherAccessToken => "OtherAccessToken",
-            RequestFault::OtherKey => "OtherKey",
         }
     }
 }
@@ -111,8 +112,8 @@ fn is_access(alloc: Global, claims: &Claims, request: &Request<'_>) -> Result<bo
     }
 }
 
-/// Whether the access token is bound to the key of this thumbprint.
-fn is_key(request: &Request<'_>, thumbprint: &str) -> bool
+/// Whether no access token came, or it is bound to the key of this thumbprint.
+pub(crate) fn is_key(request: &Request<'_>, thumbprint: &str) -> bool
     ensures { result ≡ is_key request.now thumbprint.now }
 {
     match request.access {
@@ -124,7 +125,7 @@ fn is_key(request: &Request<'_>, thumbprint: &str) -> bool
     }
 }
 
-/// The first of the steps that doesn't hold of a proof's claims and of its key, which has this thumbprint.
+/// The first of the steps that doesn't hold of a proof's claims.
 ///
 /// # Errors
 /// Where an allocation was refused.
@@ -132,13 +133,15 @@ pub(crate) fn request_fault(
     alloc: Global,
     claims: &Claims,
     request: &Request<'_>,
-    thumbprint: &str,
 ) -> Result<Option<RequestFault>, AllocError>
     ensures { IfOk result (λ fault. fault
-        ≡ first_row (request_rows claims.now request.now thumbprint.now)) }
+        ≡ first_row (request_rows claims.now request.now)) }
 {
     if !is_text("htm", claims, request.method) {
         return Ok(Some(RequestFault::OtherMethod));
+    }
+    if !has_agreed_path(request.uri.as_bytes()) {
+        return Ok(Some(RequestFault::PathForm));
     }
     if !is_uri(alloc, claims, request)? {
         return Ok(Some(RequestFault::OtherUri));
@@ -148,9 +151,6 @@ pub(crate) fn request_fault(
     }
     if !is_access(alloc, claims, request)? {
         return Ok(Some(RequestFault::OtherAccessToken));
-    }
-    if !is_key(request, thumbprint) {
-        return Ok(Some(RequestFault::OtherKey));
     }
     Ok(None)
 }

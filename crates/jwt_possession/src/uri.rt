@@ -17,7 +17,7 @@ fn find(text: &[u8], octet: u8) -> Option<usize>
 
 /// The place of the first such octet, or the length where there is none.
 #[tactic(auto, using(crate::proofs::Places::place_is, crate::proofs::Places::place_is_end))]
-fn place_of(text: &[u8], octet: u8) -> usize
+pub(crate) fn place_of(text: &[u8], octet: u8) -> usize
     ensures value { result ≡ position_or_len (λ x. x == octet) text.now }
     ensures within { result ≤ length text.now }
 {
@@ -28,21 +28,21 @@ fn place_of(text: &[u8], octet: u8) -> usize
 }
 
 /// The text before the first such octet.
-fn before(text: &[u8], octet: u8) -> &[u8]
+pub(crate) fn before(text: &[u8], octet: u8) -> &[u8]
     ensures { result.now ≡ before octet text.now }
 {
     &text[..place_of(text, octet)]
 }
 
 /// The text from the first such octet on.
-fn from(text: &[u8], octet: u8) -> &[u8]
+pub(crate) fn from(text: &[u8], octet: u8) -> &[u8]
     ensures { result.now ≡ from octet text.now }
 {
     &text[place_of(text, octet)..]
 }
 
 /// The text behind this place.
-fn behind_place(text: &[u8], place: usize) -> &[u8]
+pub(crate) fn behind_place(text: &[u8], place: usize) -> &[u8]
     requires { place < length text.now }
     ensures { result.now ≡ drop (place + 1) text.now }
 {
@@ -58,7 +58,7 @@ fn same_but_case(one: &[u8], two: &[u8]) -> bool
 
 /// What stands behind this scheme.
 #[tactic(auto, using(crate::proofs::Places::shorter))]
-fn behind<'a>(text: &'a [u8], scheme: &[u8]) -> Option<&'a [u8]>
+pub(crate) fn behind<'a>(text: &'a [u8], scheme: &[u8]) -> Option<&'a [u8]>
     ensures { option_map (λ s. s.now) result ≡ behind scheme.now text.now }
 {
     if text.len() < scheme.len() {
@@ -126,14 +126,14 @@ fn normal_port<'a>(own: &[u8], port: &'a [u8]) -> &'a [u8]
 // ---- percent-encoding
 
 /// Whether an octet needs no percent-encoding (RFC 3986, section 2.3).
-fn is_unreserved(octet: u8) -> bool
+pub(crate) fn is_unreserved(octet: u8) -> bool
     ensures { result ≡ is_unreserved octet }
 {
     matches!(octet, b'A'..=b'Z' | b'a'..=b'z' | b'0'..=b'9' | b'-' | b'.' | b'_' | b'~')
 }
 
 /// The value of a hexadecimal digit.
-fn value_of(digit: u8) -> Option<u8>
+pub(crate) fn value_of(digit: u8) -> Option<u8>
     ensures value { result ≡ value_of digit }
     ensures range { IfSome result (λ n. n < 16) }
 {
@@ -146,7 +146,7 @@ fn value_of(digit: u8) -> Option<u8>
 }
 
 /// The capital digit of a value.
-fn digit_of(value: u8) -> u8
+pub(crate) fn digit_of(value: u8) -> u8
     requires { value < 16 }
     ensures { result ≡ digit_of value }
 {

@@ -9,7 +9,7 @@ use Rattle.jwt_request.specs.declared.replies.Reply.{Reply}
 use Rattle.jwt_request.specs.declared.challenge.Challenge.{Challenge}
 use Rattle.jwt_request.specs.declared.challenge.Challenge.TheVariants.{Realm, InvalidRequest, InvalidToken, InsufficientScope, Scopes, InvalidProof, UseNonce}
 use Rattle.jwt_request.specs.declared.replies.Outcome.{Outcome}
-use Rattle.jwt_request.specs.declared.replies.Outcome.TheVariants.{Several, Absent, Malformed, Accepted, Refused, ScopeMissing, Denied, ProofRefused, NonceWanted, KeysTooOld, Unanswered}
+use Rattle.jwt_request.specs.declared.replies.Outcome.TheVariants.{Several, Absent, Malformed, Accepted, Refused, ScopeMissing, Denied, ProofRefused, NonceWanted, PathForm, ShareUsedUp, MemoryFull, KeysTooOld, Unanswered}
 use Rattle.jwt_request.specs.Spelled.{IsFound}
 
 -- of several headers nothing is read
@@ -33,9 +33,12 @@ pub record IsStatus (taken : Bool) (outcome : Outcome) (status : ℕ) : Type 0 w
   pub unauthorized : (status ≡ 401) ↔ ((taken ≡ true) × ((outcome ≡ Absent) ⊎ IsRefusal outcome))
   -- the token is accepted, and grants too little
   pub forbidden : (status ≡ 403) ↔ ((outcome ≡ ScopeMissing) ⊎ (outcome ≡ Denied))
-  pub bad : (status ≡ 400) ↔ (outcome ≡ Several)
-  -- nothing is said of the token
-  pub unavailable : (status ≡ 503) ↔ (outcome ≡ KeysTooOld)
+  -- the request itself is at fault
+  pub bad : (status ≡ 400) ↔ ((outcome ≡ Several) ⊎ (outcome ≡ PathForm))
+  -- this owner has to wait, and nobody else (RFC 6585, section 4)
+  pub too_many : (status ≡ 429) ↔ (outcome ≡ ShareUsedUp)
+  -- nothing is said of the token, or everybody has to wait
+  pub unavailable : (status ≡ 503) ↔ ((outcome ≡ KeysTooOld) ⊎ (outcome ≡ MemoryFull))
   -- so it is where no scheme is taken: no other token or proof may get on, and there is no challenge for it
   pub failed : (status ≡ 500) ↔ ((outcome ≡ Unanswered) ⊎ ((taken ≡ false) × ((outcome ≡ Absent) ⊎ IsRefusal outcome)))
 

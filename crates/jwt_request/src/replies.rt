@@ -37,6 +37,12 @@ pub enum Outcome {
     ProofRefused,
     /// The proof hasn't the nonce that is asked for.
     NonceWanted,
+    /// The path of the request is none of which every reader makes the same, so nobody can say what a proof for it is for.
+    PathForm,
+    /// Whose token or proof it is has as many held as one owner may have, where each counts once.
+    ShareUsedUp,
+    /// As many tokens or proofs that count once are held as there is room for.
+    MemoryFull,
     /// The keys are too old.
     KeysTooOld,
     /// Nothing can be said of the token.
@@ -84,14 +90,15 @@ impl Outcome {
     {
         match self {
             Outcome::Accepted => 200,
-            Outcome::Several => 400,
+            Outcome::Several | Outcome::PathForm => 400,
             Outcome::Absent
             | Outcome::Malformed
             | Outcome::Refused
             | Outcome::ProofRefused
             | Outcome::NonceWanted => if is_taken { 401 } else { 500 },
             Outcome::ScopeMissing | Outcome::Denied => 403,
-            Outcome::KeysTooOld => 503,
+            Outcome::ShareUsedUp => 429,
+            Outcome::KeysTooOld | Outcome::MemoryFull => 503,
             Outcome::Unanswered => 500,
         }
     }
@@ -112,7 +119,12 @@ impl Outcome {
         ensures { IsChallenge true true self result }
     {
         match self {
-            Outcome::Accepted | Outcome::KeysTooOld | Outcome::Unanswered => Challenge::Silent,
+            Outcome::Accepted
+            | Outcome::PathForm
+            | Outcome::ShareUsedUp
+            | Outcome::MemoryFull
+            | Outcome::KeysTooOld
+            | Outcome::Unanswered => Challenge::Silent,
             Outcome::Several => Challenge::InvalidRequest,
             Outcome::Absent => Challenge::Realm,
             Outcome::Malformed | Outcome::Refused => Challenge::InvalidToken,
@@ -137,6 +149,9 @@ impl Outcome {
             Outcome::Accepted
             | Outcome::ScopeMissing
             | Outcome::Denied
+            | Outcome::PathForm
+            | Outcome::ShareUsedUp
+            | Outcome::MemoryFull
             | Outcome::KeysTooOld
             | Outcome::Unanswered => Challenge::Silent,
         }

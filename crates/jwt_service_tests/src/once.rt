@@ -193,7 +193,7 @@ fn entry(alloc: Global, claims: &str) -> Result<Result<Entry, Lack>, Fail> {
     let Ok(claims) = Claims::read(alloc, claims.as_bytes()) else {
         return Err(Fail::from("no claims"));
     };
-    Ok(entry_of(&policy, &claims))
+    Ok(entry_of(&policy, &claims, 100))
 }
 
 /// A store that is asked with entries holds a token as the memory does.

@@ -50,7 +50,7 @@ func open() *fowharimu.Validator {
 
 // proofs opens the policy for proofs of the folder, and its nonces.
 func proofs() (*fowharimu.Proofs, *fowharimu.Nonces) {
-	once, err := fowharimu.OpenOnce(1000)
+	once, err := fowharimu.OpenOnce(1000, fowharimu.Opened(time.Unix(0, 0)), fowharimu.Share(1000))
 	if err != nil {
 		log.Fatal(err)
 	}
@@ -70,7 +70,7 @@ func handleWithProofs(validator *fowharimu.Validator, behind http.Handler) {
 	of, nonces := proofs()
 	origin := "https://api.example"
 	both := guard.DPoP(guard.Proofs{Of: of, Origin: origin})
-	http.Handle("/unbound", guard.Bearer(validator, guard.RefuseBound())(behind))
+	http.Handle("/unbound", guard.Bearer(validator)(behind))
 	http.Handle("/dpop", guard.Bearer(validator, both)(behind))
 	http.Handle("/dpop-only", guard.Bearer(validator, guard.DPoP(guard.Proofs{Of: of, Origin: origin, Only: true}))(behind))
 	http.Handle("/dpop-nonce", guard.Bearer(validator, guard.DPoP(guard.Proofs{Of: of, Origin: origin, Nonces: nonces}))(behind))

@@ -45,7 +45,7 @@ from ._faults import (
     TooLong,
     Unreadable,
 )
-from ._once import Once, OnceStore, asks_store, once_of
+from ._once import Once, OnceEntry, OnceStore, asks_store, once_of
 from ._possession import ANYONE, UNBOUND, Certificate, Holder, Nonces, Proof, Proofs
 from ._seats import SHORT, Seat, Seats, said, written
 from ._texts import Document, Text, document_of, octets_of
@@ -72,6 +72,7 @@ __all__ = [
     "NotTaken",
     "Nonces",
     "Once",
+    "OnceEntry",
     "OnceStore",
     "PolicyRefused",
     "Proof",

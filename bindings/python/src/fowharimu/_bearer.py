@@ -8,7 +8,7 @@ from typing import Any, Callable, Dict, List, NamedTuple, Protocol, Tuple, TypeV
 from . import Claims, Denied, TokenRefused, Validator
 from ._access import NO_RULE, Rule, checked
 from ._dpop import DPoP
-from ._possession import ANYONE, UNBOUND, Holder
+from ._possession import UNBOUND, Holder
 from ._replies import NoToken, Outcome, Quoted, Scheme, Shown, checked_realm, reply_to, token_in
 from ._waiting import Waiting
 
@@ -19,7 +19,7 @@ _Said = TypeVar("_Said")
 class Validates(Protocol):
     """What a guard asks: a `Validator`, `RemoteKeys`, or `Issuers`."""
 
-    def validate(self, token: str, now: None = None, access: Rule = NO_RULE) -> Claims: ...
+    def validate(self, token: str, now: None = None, access: Rule = NO_RULE, *, holder: Holder = UNBOUND) -> Claims: ...
 
 
 class Sent(NamedTuple):
@@ -53,20 +53,13 @@ class Asking(NamedTuple):
     shown: Shown
     holder: Holder
 
-    @property
-    def words(self) -> Dict[str, Any]:
-        """What validate is handed beside the token (what stands for a validator may know no holders)."""
-        return {} if self.holder is ANYONE else {"holder": self.holder}
-
 
 class Bearer:
     """Asks a validator, and an access rule where there is one, for the token of a request, and where proofs are taken, for its proof."""
 
-    def __init__(self, validator: Validates, access: Rule, realm: str, dpop: Union[DPoP, NoDPoP], refuses_bound: bool) -> None:
+    def __init__(self, validator: Validates, access: Rule, realm: str, dpop: Union[DPoP, NoDPoP]) -> None:
         if not isinstance(dpop, (DPoP, NoDPoP)):
             raise TypeError("dpop has to be a DPoP: where no proofs are taken, it is left out")
-        if not isinstance(refuses_bound, bool):
-            raise TypeError("refuses_bound has to be a bool")
         self._validator = validator
         self._asks_store = getattr(validator, "_asks_store", False)
         self._access = checked(access)
@@ -74,14 +67,13 @@ class Bearer:
         self._words: Dict[str, Any] = {} if access is NO_RULE else {"access": access}
         self._dpop = dpop if isinstance(dpop, DPoP) else None
         self._schemes = Scheme.BEARER if self._dpop is None else self._dpop.schemes
-        self._bearers = UNBOUND if refuses_bound or self._dpop is not None else ANYONE
         self._quoted = Quoted(checked_realm(realm), algs=b"" if self._dpop is None else self._dpop.algs)
 
     def claims(self, sent: Sent) -> Claims:
         """The claims of the token of a request. Raises Challenged, and MemoryError and Closed where nothing is said of the token: a server answers
         these by 500."""
         asking = self._asking(sent)
-        return self._told(asking, lambda: self._validator.validate(asking.shown.token.decode(), **self._words, **asking.words))
+        return self._told(asking, lambda: self._validator.validate(asking.shown.token.decode(), **self._words, holder=asking.holder))
 
     def claims_at_once(self, sent: Sent) -> Union[Claims, Tuple[Asking, Waiting], None]:
         """The same, but for waiting: a token that waits for a fetch of keys, and None for what may have to be waited for in a thread."""
@@ -98,7 +90,7 @@ class Bearer:
         if self._asks_store or asking.holder.asks_store:
             return None
         if isinstance(self._validator, Validator):
-            return self._validator.validate(token, **self._words, **asking.words)
+            return self._validator.validate(token, **self._words, holder=asking.holder)
         judge = getattr(self._validator, "_validate_at_once", None)
         return None if judge is None else judge(token, self._access, asking.holder)
 
@@ -139,7 +131,7 @@ class Bearer:
     def _holder(self, shown: Shown, sent: Sent) -> Holder:
         """What is asked of who sends a token that is shown. Raises Challenged where it takes a proof, and there isn't one."""
         if self._dpop is None or shown.scheme != Scheme.DPOP:
-            return self._bearers
+            return UNBOUND
         if len(sent.proofs) != 1:
             raise self._challenged(shown.scheme, Outcome.PROOF_REFUSED)
         return self._dpop.proof(sent.proofs[0], sent.method, sent.path)

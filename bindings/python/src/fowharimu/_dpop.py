@@ -21,6 +21,13 @@ def spelled(path: Union[str, bytes]) -> str:
     return quote(path, safe=_OF_PATHS)
 
 
+def checked_mount(mount: str) -> str:
+    """What stands before the path of each request. Raises ValueError where it isn't empty and doesn't begin with `/`, or ends with one."""
+    if mount and (not mount.startswith("/") or mount.endswith("/")):
+        raise ValueError("a mount is empty, or begins with / and doesn't end with one")
+    return mount
+
+
 class NoNonces:
     """That no nonces are asked for: another thing than None, which somebody may have looked up and not found."""
 

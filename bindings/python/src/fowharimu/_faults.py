@@ -117,10 +117,12 @@ class TokenRefused(FowharimuError):
 class NotTaken(TokenRefused):
     """The token is accepted, and counts once. `fault` is `Seen`: it was taken before; `Late`: its `exp` and the leeway have passed by the greatest moment
     that was judged at; `Full`: as many tokens are held as there is room for; `NoId`, `NoEnd`: it has no `jti`, or no `exp`; `Ahead`: its `iat`
-    is further ahead of now than the leeway."""
+    is further ahead of now than the leeway; `OwnFull`: its issuer and `sub` have as many as one owner may; `Before`: it was issued before the memory was
+    opened, or says no `iat`."""
 
     def __str__(self) -> str:
-        return f"the token counts once, and isn't taken: {self.fault}"
+        why = "it was issued before this memory was opened" if self.fault == "Before" else self.fault
+        return f"the token counts once, and isn't taken: {why}"
 
 
 class NotExpected(TokenRefused):
@@ -137,10 +139,11 @@ class NotExpected(TokenRefused):
 
 class NotHeld(TokenRefused):
     """The token is accepted, and its sender hasn't shown that the key is theirs that it is bound to. `fault` is why the proof is none for this request, such as `OtherUri`
-    (docs/POSSESSION.md); `OtherCertificate`: it isn't bound to this certificate; `Bound`: it is bound, and came without either."""
+    (docs/POSSESSION.md); `OtherCertificate`: it isn't bound to this certificate, or is bound to one that wasn't shown; `OtherKey`: it is bound to a key as well;
+    `Unknown`: it is bound in a way that isn't known; `Bound`: it is bound, and came without any."""
 
     def __str__(self) -> str:
-        return f"the sender of the token doesn't hold its key: {_named(self.fault, {**_meanings.TOKEN, **_meanings.PROOF})}"
+        return f"the sender of the token doesn't hold its key: {_named(self.fault, {**_meanings.TOKEN, **_meanings.BINDING, **_meanings.PROOF})}"
 
 
 class TooLong(TokenRefused):

@@ -37,6 +37,19 @@ class COnce(ctypes.Structure):
     _fields_ = [("at", ctypes.c_void_p), ("held", ctypes.c_bool)]
 
 
+class CEntry(ctypes.Structure):
+    """fow_entry."""
+
+    _fields_ = [
+        ("mark", ctypes.c_uint8 * 32),
+        ("owner", ctypes.c_uint8 * 32),
+        ("owned", ctypes.c_uint64),
+        ("moment", ctypes.c_uint64),
+        ("grace", ctypes.c_uint64),
+        ("issued", ctypes.c_uint64),
+    ]
+
+
 class CPossession(ctypes.Structure):
     """fow_possession."""
 
@@ -146,21 +159,21 @@ _SIGNATURES = {
     "fow_denied_name": (_U32, [_VALIDATOR, _ACCESS, *_OUT]),
     "fow_expect_text": (_U32, [_VALIDATOR, *_IN, *_IN, ctypes.POINTER(_U32)]),
     "fow_expect_half_hash": (_U32, [_VALIDATOR, *_IN, _U32, *_IN, *_IN, ctypes.POINTER(_U32)]),
-    "fow_once_open": (_U32, [_ONCE, _SIZE]),
+    "fow_once_open": (_U32, [_ONCE, _SIZE, _SIZE, ctypes.c_uint64]),
     "fow_once_take": (_U32, [_ONCE, _VALIDATOR, ctypes.c_int64, ctypes.POINTER(_U32)]),
-    "fow_once_entry": (_U32, [_VALIDATOR, ctypes.POINTER(ctypes.c_uint8), _SIZE, ctypes.POINTER(ctypes.c_uint64), ctypes.POINTER(_U32)]),
+    "fow_once_entry": (_U32, [_VALIDATOR, ctypes.c_int64, ctypes.POINTER(CEntry), ctypes.POINTER(_U32)]),
     "fow_once_close": (None, [_ONCE]),
     "fow_possession_open": (_U32, [_POSSESSION, *_IN, ctypes.POINTER(_U32)]),
     "fow_possession_judge": (_U32, [_POSSESSION, _VALIDATOR, *_IN * 5, ctypes.c_int64, ctypes.POINTER(_U32)]),
     "fow_possession_take": (_U32, [_POSSESSION, _ONCE, ctypes.c_int64, ctypes.POINTER(_U32)]),
-    "fow_possession_entry": (_U32, [_POSSESSION, ctypes.POINTER(ctypes.c_uint8), _SIZE, ctypes.POINTER(ctypes.c_uint64), ctypes.POINTER(_U32)]),
+    "fow_possession_entry": (_U32, [_POSSESSION, ctypes.POINTER(CEntry)]),
     "fow_possession_algs": (_U32, [_POSSESSION, *_OUT]),
     "fow_possession_fresh": (_U32, [_POSSESSION, *_IN, _U32, ctypes.c_int64]),
     "fow_possession_close": (None, [_POSSESSION]),
     "fow_nonce": (_U32, [*_IN, _U32, ctypes.c_int64, *_OUT]),
     "fow_proof_outcome": (_U32, [_U32, _U32]),
-    "fow_bound": (_U32, [_VALIDATOR, ctypes.POINTER(_U32)]),
-    "fow_certificate_holds": (_U32, [_VALIDATOR, *_IN]),
+    "fow_taken_outcome": (_U32, [_U32, _U32, _U32]),
+    "fow_shown": (_U32, [_VALIDATOR, _POSSESSION, *_IN, ctypes.POINTER(_U32), ctypes.POINTER(_U32)]),
     "fow_fault_name": (ctypes.c_char_p, [_U32]),
     "fow_issue": (_U32, [_VALIDATOR, _U32, _U32, _U32, *_IN, *_IN, *_OUT, _REPORT]),
     "fow_credentials": (_U32, [_U32, *_IN, ctypes.POINTER(_U32), ctypes.POINTER(_SIZE), ctypes.POINTER(_SIZE)]),

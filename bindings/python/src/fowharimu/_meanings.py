@@ -102,4 +102,10 @@ PROOF = {
     "OtherNonce": "`nonce` isn't the one that was asked for",
     "OtherAccessToken": "`ath` isn't the hash of the access token that came with it",
     "OtherKey": "the access token that came with it is bound to another key, or to none",
+    "PathForm": "the request's own path can be read in more ways than one",
+}
+BINDING = {
+    "Unknown": "it is bound in a way that isn't known: `cnf` is no object, is empty, or has a member that is neither `jkt` nor `x5t#S256`",
+    "OtherKey": "it is bound to a key, and no proof of it is kept",
+    "OtherCertificate": "it is bound to a certificate, and this one isn't it, or none was shown",
 }

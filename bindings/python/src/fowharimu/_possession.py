@@ -14,8 +14,20 @@ from ._seats import Seat, written
 from ._texts import Document, Text, document_of, octets_of
 
 
-# FOW_NONCE_LEN, and FOW_PROOF_OTHER_NONCE.
-_NONCE, _OTHER_NONCE = 43, 1303
+# FOW_NONCE_LEN, FOW_PROOF_OTHER_NONCE, and FOW_BOUND_CERTIFICATE.
+_NONCE, _OTHER_NONCE, _BY_CERTIFICATE = 43, 1303, 2
+
+
+def _shown(seat: Seat, possession: _library.CPossession, der: bytes) -> int:
+    """How the token that a seat has accepted just now is bound, where each way was shown by the proof that is kept and this certificate. Raises NotHeld, and MemoryError
+    where memory is refused."""
+    ways, fault = ctypes.c_uint32(), ctypes.c_uint32()
+    status = seat.library.fow_shown(seat.held, possession, der, len(der), ways, fault)
+    if status == _library.REFUSED:
+        raise NotHeld(seat.library.fow_fault_name(fault.value).decode())
+    if status != _library.OK:
+        raise MemoryError
+    return ways.value
 
 
 class Holder:
@@ -43,9 +55,10 @@ class _Unbound(Holder):
     """The token isn't bound: else whoever stole it could use it (RFC 9449, section 7.2)."""
 
     def hold(self, seat: Seat, token: bytes, moment: int) -> None:
-        how = ctypes.c_uint32()
-        if seat.library.fow_bound(seat.held, how) != _library.OK or how.value != 0:
-            raise NotHeld("Bound")
+        try:
+            _shown(seat, _library.CPossession(), b"")
+        except NotHeld:
+            raise NotHeld("Bound") from None
 
 
 class Certificate(Holder):
@@ -58,10 +71,7 @@ class Certificate(Holder):
         self._der = bytes(memoryview(der))
 
     def hold(self, seat: Seat, token: bytes, moment: int) -> None:
-        status = seat.library.fow_certificate_holds(seat.held, self._der, len(self._der))
-        if status == _library.OUT_OF_MEMORY:
-            raise MemoryError
-        if status != _library.OK:
+        if not _shown(seat, _library.CPossession(), self._der) & _BY_CERTIFICATE:
             raise NotHeld("OtherCertificate")
 
 
@@ -171,6 +181,7 @@ class Proofs:
             raise refusal
         if status != _library.OK:
             raise MemoryError
+        _shown(seat, opened.held, b"")
         self._once.take_proof(opened.held, moment)
 
 

@@ -15,7 +15,7 @@ from typing import Any, Awaitable, Callable, Dict, Union
 from . import Claims
 from ._access import NO_RULE, Rule
 from ._bearer import NO_DPOP, Bearer, Challenged, NoDPoP, Sent, Validates
-from ._dpop import DPoP, spelled
+from ._dpop import DPoP, checked_mount, spelled
 from ._waiting import Fetching
 
 Message = Dict[str, Any]
@@ -30,15 +30,17 @@ _POLICY_VIOLATION = 1008
 class Guard:
     """An application before another, which is asked only where the request's token is accepted now, and its claims meet the access rule.
 
-    Else the answer is 400, 401 or 403, with `WWW-Authenticate` (RFC 6750, section 3), or 503 where keys by URL are too old; a WebSocket is closed before it
+    Else the answer is 400, 401 or 403, with `WWW-Authenticate` (RFC 6750, section 3), 429 where the owner of what counts once has used up its share, or 503 where
+    keys by URL are too old or there is no room for what counts once; a WebSocket is closed before it
     is open. Where nothing is said of a token, for want of memory, the exception is the server's, which answers 500. With `hides_token` the application
     isn't shown `Authorization`, nor `DPoP`.
 
-    With `dpop` tokens that are bound to a key are taken too, with a proof in each request (RFC 9449, section 7), or alone. With `refuses_bound`, and wherever proofs
-    are taken, a bearer's token that is bound is refused. The path of a proof's URI is `raw_path`, where the server tells it, else `path` behind
-    `root_path`, encoded.
+    With `dpop` tokens that are bound to a key are taken too, with a proof in each request (RFC 9449, section 7), or alone. A bearer's token that is bound is refused. The
+    path of a proof's URI is `mount` and `raw_path`, where the server tells it, else `path`, encoded. `mount` is what a proxy before the server has taken off the
+    path; `root_path` isn't looked at.
 
-    Raises TypeError for an access rule or a dpop that is none, such as None: where none is meant, it is left out.
+    Raises TypeError for an access rule or a dpop that is none, such as None: where none is meant, it is left out; and ValueError for a mount that isn't empty
+    and doesn't begin with `/`, or that ends with one.
     """
 
     def __init__(
@@ -50,10 +52,11 @@ class Guard:
         realm: str = "jwt",
         hides_token: bool = False,
         dpop: Union[DPoP, NoDPoP] = NO_DPOP,
-        refuses_bound: bool = False,
+        mount: str = "",
     ) -> None:
         self._app = app
-        self._bearer = Bearer(validator, access, realm, dpop, refuses_bound)
+        self._bearer = Bearer(validator, access, realm, dpop)
+        self._mount = checked_mount(mount)
         self._hides_token = hides_token
 
     async def __call__(self, scope: Message, receive: Receive, send: Send) -> None:
@@ -61,7 +64,7 @@ class Guard:
             await self._app(scope, receive, send)
             return
         try:
-            claims = await self._claims(_sent(scope))
+            claims = await self._claims(_sent(scope, self._mount))
         except Challenged as why:
             await _refuse(scope, send, why)
             return
@@ -78,12 +81,12 @@ class Guard:
         return await asyncio.to_thread(self._bearer.claims, sent) if said is None else said
 
 
-def _sent(scope: Message) -> Sent:
+def _sent(scope: Message, mount: str) -> Sent:
     """What a request sends. A WebSocket is asked for by GET (RFC 6455, section 4.1)."""
     authorizations, proofs = (
         [value.decode("latin-1") for name, value in scope["headers"] if name.lower() == wanted] for wanted in (b"authorization", b"dpop")
     )
-    return Sent(authorizations, proofs, scope.get("method", "GET"), _path(scope))
+    return Sent(authorizations, proofs, scope.get("method", "GET"), mount + _path(scope))
 
 
 def _path(scope: Message) -> str:
@@ -91,9 +94,7 @@ def _path(scope: Message) -> str:
     if scope.get("raw_path"):
         # (some servers have the query behind it)
         return str(scope["raw_path"].split(b"?")[0].decode("latin-1"))
-    # (in an application that is mounted, some frameworks leave what it is mounted at out of the path)
-    root, path = scope.get("root_path", "").rstrip("/"), scope.get("path", "")
-    return spelled(path if f"{path}/".startswith(f"{root}/") else root + path)
+    return spelled(scope.get("path", ""))
 
 
 async def _over(fetch: Fetching) -> None:

@@ -32,7 +32,6 @@ pub struct Guard {
     access: Option<Arc<Access>>,
     realm: String,
     hides_token: bool,
-    refuses_bound: bool,
     dpop: Option<Dpop>,
 }
 
@@ -49,7 +48,8 @@ pub struct Dpop {
 /// Why a request isn't let through: what it is answered with, and the error of the token, where it has one.
 #[derive(Clone, Debug, PartialEq, Eq)]
 pub struct Refusal {
-    /// 400, 401 or 403; 500 where nothing is said of the token, and 503 where the keys are too old.
+    /// 400, 401 or 403; 429 where the owner of what counts once has used up its share; 500 where nothing is said of the token, and 503 where the keys are too old or there is no room
+    /// for what counts once.
     pub status: StatusCode,
     /// The values of `WWW-Authenticate`, one for each scheme (RFC 6750, section 3; RFC 9449, section 7.1); none beside 500 and 503.
     pub challenges: Vec<String>,
@@ -67,23 +67,14 @@ impl Guard {
             access: None,
             realm: "jwt".to_owned(),
             hides_token: false,
-            refuses_bound: false,
             dpop: None,
         }
     }
 
-    /// Takes tokens of the scheme DPoP too, or alone, with proofs. A bearer's token that is bound is refused then.
+    /// Takes tokens of the scheme DPoP too, or alone, with proofs.
     pub fn dpop(self, dpop: Dpop) -> Guard {
         Guard {
             dpop: Some(dpop),
-            ..self
-        }
-    }
-
-    /// Refuses a bearer's token that is bound: else whoever stole it could use it (RFC 9449, section 7.2).
-    pub fn refuse_bound(self) -> Guard {
-        Guard {
-            refuses_bound: true,
             ..self
         }
     }
@@ -152,9 +143,8 @@ impl Guard {
                 };
                 self.judging.validate_with(token, &call.proof(proof))
             }
-            Some(_) => self.judging.validate_with(token, &call.unbound()),
-            None if self.refuses_bound => self.judging.validate_with(token, &call.unbound()),
-            None => self.judging.validate_with(token, &call),
+            // (else whoever stole it could use it: RFC 9449, section 7.2)
+            _ => self.judging.validate_with(token, &call.unbound()),
         };
         said.map_err(|error| self.refusal(scheme, error))
     }
@@ -307,7 +297,7 @@ mod tests {
 
     #[test]
     fn a_path_stands_behind_the_origin() {
-        let once = Once::open(NonZeroUsize::MIN).unwrap();
+        let once = Once::open_with(NonZeroUsize::MIN, None, 0).unwrap();
         let proofs = Proofs::open(PROOFS, Arc::new(once)).unwrap();
         let dpop = Dpop::new(proofs, "https://api.example").unwrap();
         for (target, path) in [

@@ -47,11 +47,12 @@ pub const FOW_TAKEN_FULL: u32 = 4;
 pub const FOW_TAKEN_NO_ID: u32 = 5;
 pub const FOW_TAKEN_NO_END: u32 = 6;
 pub const FOW_TAKEN_AHEAD: u32 = 7;
+pub const FOW_TAKEN_OWN_FULL: u32 = 8;
+pub const FOW_TAKEN_BEFORE: u32 = 9;
 
 pub const FOW_BOUND_NOT: u32 = 0;
-pub const FOW_BOUND: u32 = 1;
-pub const FOW_BOUND_KEY: u32 = 2;
-pub const FOW_BOUND_CERTIFICATE: u32 = 4;
+pub const FOW_BOUND_KEY: u32 = 1;
+pub const FOW_BOUND_CERTIFICATE: u32 = 2;
 
 pub const FOW_THUMBPRINT_LEN: usize = 43;
 
@@ -343,6 +344,8 @@ extern "C" {
 
     pub fn fow_proof_outcome(status: u32, fault: u32) -> u32;
 
+    pub fn fow_taken_outcome(of_proof: u32, status: u32, taken: u32) -> u32;
+
     pub fn fow_nonce(
         secret: *const u8,
         secret_len: usize,
@@ -429,7 +432,7 @@ extern "C" {
         unmet: *mut u32,
     ) -> u32;
 
-    pub fn fow_once_open(once: *mut fow_once, tokens: usize) -> u32;
+    pub fn fow_once_open(once: *mut fow_once, tokens: usize, share: usize, opened: u64) -> u32;
 
     pub fn fow_once_take(
         once: *mut fow_once,
@@ -495,12 +498,13 @@ extern "C" {
 
     pub fn fow_possession_close(possession: *mut fow_possession);
 
-    pub fn fow_bound(validator: *mut fow_validator, how: *mut u32) -> u32;
-
-    pub fn fow_certificate_holds(
+    pub fn fow_shown(
         validator: *mut fow_validator,
+        possession: *mut fow_possession,
         der: *const u8,
         der_len: usize,
+        ways: *mut u32,
+        fault: *mut u32,
     ) -> u32;
 
     pub fn fow_fault_name(fault: u32) -> *const c_char;

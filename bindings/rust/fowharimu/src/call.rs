@@ -1,6 +1,6 @@
 //! What one call asks of a token beside its validator.
 
-use crate::possession::{certificate_holds, is_unbound, Shown};
+use crate::possession::{is_shown, is_unbound, Shown};
 use crate::{clock, Access, Error, Proof};
 use fowharimu_sys as sys;
 
@@ -145,13 +145,11 @@ impl<'a> Call<'a> {
         if self.unbound {
             is_unbound(validator)?;
         }
-        match self.certificate {
-            Some(der) => certificate_holds(validator, der),
-            None => Ok(()),
-        }
+        Ok(())
     }
 
-    /// The proof that came with the token that a validator accepted just now, where one is asked for: it is accepted, and is to be taken.
+    /// The proof that came with the token that a validator accepted just now, where one is asked for: it is accepted, each way in which the token is bound is shown by it and by the
+    /// certificate that is asked for, and it is to be taken.
     ///
     /// # Errors
     /// `NotHeld`, and `OutOfMemory` where nothing is known.
@@ -162,7 +160,11 @@ impl<'a> Call<'a> {
         now: i64,
     ) -> Result<Option<Shown<'a>>, Error> {
         let proof = self.proof.as_ref();
-        proof.map(|it| it.judge(validator, token, now)).transpose()
+        let mut shown = proof
+            .map(|it| it.judge(validator, token, now))
+            .transpose()?;
+        is_shown(validator, shown.as_mut(), self.certificate)?;
+        Ok(shown)
     }
 }
 

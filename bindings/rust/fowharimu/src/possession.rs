@@ -234,32 +234,73 @@ impl Drop for Shown<'_> {
     }
 }
 
+/// A policy for proofs that is none, so that no proof is kept.
+fn no_proof() -> sys::fow_possession {
+    sys::fow_possession {
+        at: ptr::null_mut(),
+        held: false,
+    }
+}
+
 /// Whether the token that a validator accepted just now is bound to nothing.
 ///
 /// # Errors
 /// `NotHeld`, and `OutOfMemory` where nothing is known.
 pub(crate) fn is_unbound(validator: &mut sys::fow_validator) -> Result<(), Error> {
-    let mut how = sys::FOW_BOUND;
-    // SAFETY: it is the one that judged.
-    match (unsafe { sys::fow_bound(validator, &mut how) }, how) {
-        (sys::FOW_OK, sys::FOW_BOUND_NOT) => Ok(()),
-        (sys::FOW_OK, _) => Err(not_held("Bound")),
-        _ => Err(Error::OutOfMemory),
+    match ways_shown(validator, &mut no_proof(), b"") {
+        Ok(_) => Ok(()),
+        Err(Error::NotHeld { .. }) => Err(not_held("Bound")),
+        Err(error) => Err(error),
     }
 }
 
-/// Whether the token that a validator accepted just now is bound to the certificate whose DER this is.
+/// Whether each way in which the token that a validator accepted just now is bound is shown by this proof and the certificate whose DER this is, where there are such;
+/// with a certificate it has to be bound to that.
 ///
 /// # Errors
 /// `NotHeld`, and `OutOfMemory` where nothing is known.
-pub(crate) fn certificate_holds(
+pub(crate) fn is_shown(
     validator: &mut sys::fow_validator,
-    der: &[u8],
+    proof: Option<&mut Shown<'_>>,
+    certificate: Option<&[u8]>,
 ) -> Result<(), Error> {
-    // SAFETY: the slice is as long as its length says, and isn't null; the validator is the one that judged.
-    match unsafe { sys::fow_certificate_holds(validator, der.as_ptr(), der.len()) } {
-        sys::FOW_OK => Ok(()),
-        sys::FOW_NOT_EXPECTED => Err(not_held("OtherCertificate")),
+    let mut none = no_proof();
+    let possession = match proof {
+        Some(shown) => shown.held()?,
+        None if certificate.is_none() => return Ok(()),
+        None => &mut none,
+    };
+    let ways = ways_shown(validator, possession, certificate.unwrap_or_default())?;
+    if certificate.is_some() && ways & sys::FOW_BOUND_CERTIFICATE == 0 {
+        return Err(not_held("OtherCertificate"));
+    }
+    Ok(())
+}
+
+/// How the token that a validator accepted just now is bound, where each way is shown.
+///
+/// # Errors
+/// `NotHeld`, and `OutOfMemory` where nothing is known.
+fn ways_shown(
+    validator: &mut sys::fow_validator,
+    possession: &mut sys::fow_possession,
+    der: &[u8],
+) -> Result<u32, Error> {
+    let (mut ways, mut fault) = (sys::FOW_BOUND_NOT, 0);
+    // SAFETY: the slice is as long as its length says, and isn't null; the validator is the one that judged, and this call has both to itself.
+    let status = unsafe {
+        sys::fow_shown(
+            validator,
+            possession,
+            der.as_ptr(),
+            der.len(),
+            &mut ways,
+            &mut fault,
+        )
+    };
+    match status {
+        sys::FOW_OK => Ok(ways),
+        sys::FOW_REFUSED => Err(not_held(&fault_name(fault))),
         _ => Err(Error::OutOfMemory),
     }
 }

@@ -55,6 +55,12 @@ pub enum Outcome {
     ProofRefused,
     /// The proof hasn't a nonce that is asked for.
     NonceWanted,
+    /// The path of the request can be read in more ways than one.
+    PathForm,
+    /// Whose token or proof it is has as many held as one owner may have.
+    ShareUsedUp,
+    /// There is no room for one more token, or proof, that counts once.
+    MemoryFull,
 }
 
 /// What challenges quote, as it is.
@@ -112,11 +118,24 @@ impl Outcome {
     /// The outcome of what was said of a proof, by a status and a fault of the library.
     pub(crate) fn of_proof(status: u32, fault: u32) -> Outcome {
         // SAFETY: it takes numbers alone.
-        match unsafe { sys::fow_proof_outcome(status, fault) } {
+        Outcome::of(unsafe { sys::fow_proof_outcome(status, fault) })
+    }
+
+    /// The outcome of what was said of a token that counts once, or of a proof.
+    pub(crate) fn of_taken(is_proof: bool, status: u32, taken: u32) -> Outcome {
+        // SAFETY: it takes numbers alone.
+        Outcome::of(unsafe { sys::fow_taken_outcome(is_proof.into(), status, taken) })
+    }
+
+    fn of(number: u32) -> Outcome {
+        match number {
             1 => Outcome::Admitted,
             5 => Outcome::NotAccepted,
             9 => Outcome::ProofRefused,
             10 => Outcome::NonceWanted,
+            11 => Outcome::PathForm,
+            12 => Outcome::ShareUsedUp,
+            13 => Outcome::MemoryFull,
             _ => Outcome::Unanswered,
         }
     }

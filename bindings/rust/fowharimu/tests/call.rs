@@ -106,7 +106,7 @@ fn what_is_expected_stands_behind_the_verdict_and_the_rule() {
 
 #[test]
 fn a_token_that_is_not_expected_is_not_taken() {
-    let once = Arc::new(Once::open(NonZeroUsize::new(10).unwrap()).unwrap());
+    let once = Arc::new(Once::open_with(NonZeroUsize::new(10).unwrap(), None, 0).unwrap());
     let validator = id_tokens().taking(once);
     let token = read("tokens/good.jwt");
     let call = Call::new().at(NOW);

@@ -19,7 +19,8 @@ fn read(profile: &str, name: &str) -> Vec<u8> {
 }
 
 fn memory(tokens: usize) -> Arc<Once> {
-    Arc::new(Once::open(NonZeroUsize::new(tokens).unwrap()).unwrap())
+    let tokens = NonZeroUsize::new(tokens).unwrap();
+    Arc::new(Once::open_with(tokens, Some(tokens), 0).unwrap())
 }
 
 /// What judges by a profile, and takes what it accepts in this memory.
@@ -104,7 +105,10 @@ fn a_token_that_cant_be_held_is_refused() {
         .is_ok());
     assert_eq!(
         taking("logout-token", &once).validate_at(&good("logout-token"), NOW),
-        Err(refused(NotTaken::Full))
+        Err(Error::NotTaken {
+            why: NotTaken::Full,
+            outcome: Outcome::MemoryFull,
+        })
     );
 }
 

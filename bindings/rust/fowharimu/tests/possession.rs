@@ -148,7 +148,8 @@ impl Table {
 }
 
 fn memory(tokens: usize) -> Arc<Once> {
-    Arc::new(Once::open(NonZeroUsize::new(tokens).unwrap()).unwrap())
+    let tokens = NonZeroUsize::new(tokens).unwrap();
+    Arc::new(Once::open_with(tokens, Some(tokens), 0).unwrap())
 }
 
 fn not_held(fault: &str) -> Result<Claims, Error> {
@@ -243,11 +244,11 @@ fn a_token_whose_proof_is_refused_is_not_taken() {
         .unwrap()
         .taking(memory(1));
     let token = fapi("tokens/good.jwt");
-    // (the proof is of another time)
+    // (the proof is of another key, and of another time)
     let call = table.good().call(&proofs).at(NOW);
     assert_eq!(
         validator.validate_with(&token, &call),
-        not_held("IssuedLater")
+        not_held("OtherKey")
     );
     assert!(validator.validate_at(&token, NOW).is_ok());
     assert_eq!(
@@ -310,7 +311,7 @@ fn a_certificate_is_the_one_that_the_token_is_bound_to() {
         let call = Call::new().at(good.now).certificate(der);
         assert_eq!(
             validator.validate_with(good.token(), &call),
-            not_held("OtherCertificate")
+            not_held("OtherKey")
         );
     }
     for (der, is_held) in [(&b"a certificate"[..], true), (b"a certificate.", false)] {

@@ -31,7 +31,7 @@ impl Guards {
         let rule = |name| -> Result<Access, Box<dyn error::Error>> {
             Ok(Access::open(&fs::read(folder.join(name))?)?)
         };
-        let once = Arc::new(Once::open(NonZeroUsize::new(1000).ok_or("no proofs")?)?);
+        let once = Arc::new(Once::open_with(NonZeroUsize::new(1000).ok_or("no proofs")?, None, 0)?);
         let proofs = Arc::new(Proofs::open(&fs::read(folder.join("proofs.json"))?, once)?);
         let nonces = Nonces::new(
             &fs::read(folder.join("nonce.secret"))?,
@@ -43,7 +43,7 @@ impl Guards {
             ("/scope", plain().access(rule("scope.json")?)),
             ("/role", plain().access(rule("role.json")?)),
             ("/hidden", plain().hide_token()),
-            ("/unbound", plain().refuse_bound()),
+            ("/unbound", plain()),
             ("/dpop", plain().dpop(dpop()?)),
             ("/dpop-only", plain().dpop(dpop()?.only())),
             ("/dpop-nonce", plain().dpop(dpop()?.nonces(nonces))),

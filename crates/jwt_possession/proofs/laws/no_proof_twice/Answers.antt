@@ -1,4 +1,4 @@
-use Rattle.std.proofs.Common.{◌≡◌, ap, sym, ◌∙◌}
+use Rattle.std.proofs.Common.{ap, sym, ◌∙◌}
 use Rattle.jwt_once.specs.declared.once.Times.{Times}
 use Rattle.jwt_possession.proofs.laws.no_proof_twice.Goals as goal
 

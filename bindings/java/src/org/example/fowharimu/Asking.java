@@ -135,31 +135,56 @@ public final class Asking {
         sender.hold(accepted);
     }
 
-    /** The proof that was accepted beside that token, at the moment of its verdict, and is to be taken; null where none is asked for. */
+    /**
+     * The proof that was accepted beside that token, at the moment of its verdict, and is to be taken; null where none is asked for. Each way in which the token is bound is shown by it and
+     * by the certificate that is asked for.
+     */
     Proof.Shown shown(Seats.Seat accepted, long moment) throws Refused {
-        return sender.proof == null ? null : sender.proof.judge(accepted, moment);
+        Proof.Shown shown = sender.proof == null ? null : sender.proof.judge(accepted, moment);
+        try {
+            sender.show(accepted, shown);
+        } catch (Throwable e) {
+            if (shown != null) {
+                shown.close();
+            }
+            throw e;
+        }
+        return shown;
     }
 
     /** What is asked of the sender: that the token isn't bound, that it is bound to a certificate, or null, and a proof, or null. */
     private record Sender(boolean unbound, byte[] der, Proof proof) {
+        /** {@code FOW_BOUND_CERTIFICATE} */
+        private static final int BY_CERTIFICATE = 2;
+        private static final byte[] NO_CERTIFICATE = {};
+
         void hold(Seats.Seat accepted) throws Refused {
-            if (unbound) {
-                int[] how = new int[1];
-                hold(Native.bound(accepted.at, how) == Native.OK, how[0] == 0, "Bound");
-            }
-            if (der != null) {
-                int status = Native.certificateHolds(accepted.at, der);
-                hold(status == Native.OK || status == Native.NOT_EXPECTED, status == Native.OK, "OtherCertificate");
+            if (unbound && ways(accepted, 0, NO_CERTIFICATE, new int[2]) < 0) {
+                throw new Refused(Refused.Kind.NOT_HELD, "Bound", null, 0, 0);
             }
         }
 
-        private static void hold(boolean isKnown, boolean holds, String fault) throws Refused {
-            if (!isKnown) {
-                throw new OutOfMemoryError("fowharimu: an allocation was refused");
+        void show(Seats.Seat accepted, Proof.Shown shown) throws Refused {
+            if (der == null && shown == null) {
+                return;
             }
-            if (!holds) {
-                throw new Refused(Refused.Kind.NOT_HELD, fault, null, 0, 0);
+            int[] said = new int[2];
+            int ways = ways(accepted, shown == null ? 0 : shown.seat().at, der == null ? NO_CERTIFICATE : der, said);
+            if (ways < 0) {
+                throw new Refused(Refused.Kind.NOT_HELD, Native.faultName(said[1]), null, 0, 0);
             }
+            if (der != null && (ways & BY_CERTIFICATE) == 0) {
+                throw new Refused(Refused.Kind.NOT_HELD, "OtherCertificate", null, 0, 0);
+            }
+        }
+
+        /** How the token is bound, where each way is shown; below 0 where one isn't, and the fault is written. */
+        private static int ways(Seats.Seat accepted, long proofs, byte[] der, int[] said) {
+            return switch (Native.shown(accepted.at, proofs, der, said)) {
+                case Native.OK -> said[0];
+                case Native.REFUSED -> -1;
+                default -> throw new OutOfMemoryError("fowharimu: an allocation was refused");
+            };
         }
     }
 

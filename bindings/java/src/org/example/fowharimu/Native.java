@@ -148,8 +148,8 @@ final class Native {
     /** Whether it is the half hash of these octets, by the algorithm of the signature of this number, which verified; as {@link #expectText}. */
     static native int expectHalfHash(long it, int signature, byte[] claim, byte[] octets, int[] unmet);
 
-    /** The address of a memory for so many tokens that count once; 0 where memory is refused. */
-    static native long openOnce(int tokens);
+    /** The address of a memory for so many tokens that count once, of each owner's at most that share, opened at that moment; 0 where memory is refused. */
+    static native long openOnce(int tokens, int share, long opened);
 
     /** Takes the token that was accepted last, at the moment of that verdict. Gives the status, and writes what became of it, a number of enum fow_taken. */
     static native int takeOnce(long once, long validator, long now, int[] taken);
@@ -176,11 +176,11 @@ final class Native {
 
     static native void closeProofs(long proofs);
 
-    /** Gives the status, and writes how the token that was accepted last is bound, by the sum of enum fow_binding; 0 is not at all. */
-    static native int bound(long it, int[] how);
-
-    /** Whether the token that was accepted last is bound to this certificate: {@link #OK}, or {@link #NOT_EXPECTED}. */
-    static native int certificateHolds(long it, byte[] der);
+    /**
+     * Whether each way in which the token that was accepted last is bound is shown: by the proof that is kept, where the address isn't 0, and by this certificate, where it isn't empty.
+     * Gives the status, and writes how it is bound, by the sum of enum fow_binding, and the fault.
+     */
+    static native int shown(long it, long proofs, byte[] der, int[] waysAndFault);
 
     static native String faultName(int fault);
 
@@ -213,6 +213,9 @@ final class Native {
 
     /** The number of an {@link Outcome}, of what was said of a proof. */
     static native int proofOutcome(int status, int fault);
+
+    /** What a service answers by what became of a token that counts once, or of a proof. */
+    static native int takenOutcome(boolean isProof, int status, int taken);
 
     static native boolean isQuotable(byte[] text);
 

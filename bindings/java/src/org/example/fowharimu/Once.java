@@ -2,6 +2,7 @@ package org.example.fowharimu;
 
 import java.lang.ref.Cleaner;
 import java.lang.ref.Reference;
+import java.time.Instant;
 
 /**
  * A memory of tokens that count once, by their issuer and {@code jti}, each until its {@code exp} and the policy's leeway. A {@link Validator} that is opened
@@ -16,24 +17,43 @@ import java.lang.ref.Reference;
  */
 public final class Once implements AutoCloseable {
     /** What became of a token that isn't taken, by the numbers of enum fow_taken. */
-    private static final String[] WHY = {null, null, "Seen", "Late", "Full", "NoId", "NoEnd", "Ahead"};
+    private static final String[] WHY = {null, null, "Seen", "Late", "Full", "NoId", "NoEnd", "Ahead", "OwnFull", "Before"};
 
     private final Memory memory;
     private final Cleaner.Cleanable cleanable;
 
     /**
-     * Makes an empty memory. Room is needed for as many tokens as are accepted within the lifetime of one: where it is too small, good tokens are refused.
+     * Makes an empty memory. Room is needed for as many tokens as are accepted within the lifetime of one: where it is too small, good tokens are refused. Of one owner, an
+     * issuer with a {@code sub}, it takes a sixteenth at most. What was issued up to this second is refused, so that a restart refuses some tokens and lets none in
+     * twice.
      *
      * @param tokens for how many tokens there is room, each of which takes some 190 octets, 310 with a {@code sub}
      * @throws IllegalArgumentException for a number below 1
      * @throws UnsatisfiedLinkError where there is no library for this machine, or one of another interface
      */
     public Once(int tokens) {
-        if (tokens < 1) {
-            throw new IllegalArgumentException("tokens have to be 1 or more");
+        this(tokens, Math.max(1, tokens / 16), Instant.now().plusSeconds(1));
+    }
+
+    /**
+     * Makes an empty memory that knows everything from a moment on.
+     *
+     * @param tokens for how many tokens there is room
+     * @param share how many one owner may have, an issuer with a {@code sub}
+     * @param opened the moment: what was issued before, by its {@code iat} and the leeway, is refused, and so is a token without {@code iat}. With {@link Instant#EPOCH} it lets in
+     *     each token once more
+     * @throws IllegalArgumentException for a number below 1, and for a moment before 1970
+     * @throws UnsatisfiedLinkError where there is no library for this machine, or one of another interface
+     */
+    public Once(int tokens, int share, Instant opened) {
+        if (tokens < 1 || share < 1) {
+            throw new IllegalArgumentException("tokens and share have to be 1 or more");
+        }
+        if (opened.getEpochSecond() < 0) {
+            throw new IllegalArgumentException("opened has to be a moment from 1970 on");
         }
         Native.check();
-        long at = Native.openOnce(tokens);
+        long at = Native.openOnce(tokens, share, opened.getEpochSecond());
         if (at == 0) {
             throw new OutOfMemoryError("fowharimu: an allocation was refused");
         }
@@ -49,21 +69,21 @@ public final class Once implements AutoCloseable {
 
     /** Takes the token that this seat of a validator has accepted just now, at that moment. */
     void take(Seats.Seat accepted, long now) throws Refused {
-        take(Outcome.NOT_ACCEPTED, (at, taken) -> Native.takeOnce(at, accepted.at, now, taken));
+        take(false, (at, taken) -> Native.takeOnce(at, accepted.at, now, taken));
     }
 
     /** Takes the proof that this seat of a policy for proofs has accepted just now, at that moment. */
     void takeProof(Seats.Seat accepted, long now) throws Refused {
-        take(Outcome.ofProof(Native.REFUSED, 0), (at, taken) -> Native.takeProof(at, accepted.at, now, taken));
+        take(true, (at, taken) -> Native.takeProof(at, accepted.at, now, taken));
     }
 
-    /** Takes by this call of the library. The outcome is that of what isn't taken. */
-    private void take(Outcome outcome, Taking call) throws Refused {
+    /** Takes by this call of the library. */
+    private void take(boolean isProof, Taking call) throws Refused {
         int[] taken = new int[1];
         int status = memory.take(call, taken);
         Reference.reachabilityFence(this);
         if (status == Native.REFUSED) {
-            throw new Refused(Refused.Kind.NOT_TAKEN, WHY[taken[0]], outcome);
+            throw new Refused(Refused.Kind.NOT_TAKEN, WHY[taken[0]], Outcome.ofTaken(isProof, status, taken[0]));
         }
         if (status != Native.OK) {
             throw new OutOfMemoryError("fowharimu: an allocation was refused");

@@ -44,7 +44,6 @@ public class Guard implements Filter {
     private final String realm;
     private final boolean hidesToken;
     private volatile Optional<Dpop> dpop = Optional.empty();
-    private volatile boolean refusesBound;
 
     /**
      * A filter that asks for an accepted token.
@@ -114,16 +113,6 @@ public class Guard implements Filter {
         return this;
     }
 
-    /**
-     * Has this filter refuse a bearer's token that is bound: else whoever stole it could use it (RFC 9449, section 7.2).
-     *
-     * @return this filter
-     */
-    public Guard refuseBound() {
-        refusesBound = true;
-        return this;
-    }
-
     @Override
     public void doFilter(ServletRequest request, ServletResponse response, FilterChain chain) throws IOException, ServletException {
         HttpServletRequest asked = (HttpServletRequest) request;
@@ -167,7 +156,8 @@ public class Guard implements Filter {
         if (hasScheme) {
             // (the path as the client wrote it, encoded)
             asking = asking.proof(dpop.orElseThrow().proof(proofs.get(0), request.getMethod(), request.getRequestURI()));
-        } else if (dpop.isPresent() || refusesBound) {
+        } else {
+            // (else whoever stole it could use it: RFC 9449, section 7.2)
             asking = asking.unbound();
         }
         try {
