@@ -1,7 +1,13 @@
+use jwt_request::Challenge::{
+    InsufficientScope, InvalidProof, InvalidRequest, InvalidToken, Realm, Scopes, Silent, UseNonce,
+};
 use jwt_request::{
     Challenge, Credentials, Outcome, Reply, Scheme, Schemes, Texts, credentials_in, credentials_of,
     is_quotable, reply_to,
 };
+use std::alloc::Global;
+use std::process::Abort;
+use std::test::Fail;
 
 const BEARER: Schemes = Schemes {
     bearer: true,
@@ -23,158 +29,134 @@ const NEITHER: Schemes = Schemes {
     dpop: false,
 };
 
-#[test]
-fn a_header_carries_a_token(rt: HostRuntime) {
-    let rows: [(&[u8], Credentials); 25] = [
-        (b"Bearer a.b.c", Credentials::Token(Scheme::Bearer, 7, 12)),
-        (b"bearer a.b.c", Credentials::Token(Scheme::Bearer, 7, 12)),
-        (b"BEARER a.b.c", Credentials::Token(Scheme::Bearer, 7, 12)),
-        (b"Bearer  a.b.c", Credentials::Token(Scheme::Bearer, 8, 13)),
-        (
-            b" \tBearer a.b.c \t",
-            Credentials::Token(Scheme::Bearer, 9, 14),
-        ),
-        (b"Bearer a.b.c=", Credentials::Token(Scheme::Bearer, 7, 13)),
-        (
-            b"Bearer -._~+/9Zz==",
-            Credentials::Token(Scheme::Bearer, 7, 18),
-        ),
-        (b"", Credentials::Absent),
-        (b"Basic YW5uOmFubg==", Credentials::Absent),
-        (b"Bearers a.b.c", Credentials::Absent),
-        (b"Beare a.b.c", Credentials::Absent),
-        (b"a.b.c", Credentials::Absent),
-        (b"Bearer\ta.b.c", Credentials::Absent),
-        (b"Bearera.b.c", Credentials::Absent),
-        (b"Bearer", Credentials::Malformed(Scheme::Bearer)),
-        (b"Bearer ", Credentials::Malformed(Scheme::Bearer)),
-        (b"Bearer a b", Credentials::Malformed(Scheme::Bearer)),
-        (b"Bearer a,b", Credentials::Malformed(Scheme::Bearer)),
-        (b"Bearer \"a.b.c\"", Credentials::Malformed(Scheme::Bearer)),
-        (b"Bearer a=.b.c", Credentials::Malformed(Scheme::Bearer)),
-        (b"Bearer ==", Credentials::Malformed(Scheme::Bearer)),
-        (b"Bearer %a", Credentials::Malformed(Scheme::Bearer)),
-        (b"Bearer \xe9a", Credentials::Malformed(Scheme::Bearer)),
-        (b"Bearer a.b\tc", Credentials::Malformed(Scheme::Bearer)),
-        (b"DPoP a.b.c", Credentials::Absent),
-    ];
-    for (value, wanted) in rows.iter() {
-        assert_eq!(rt; credentials_of(BEARER, value), *wanted);
-        assert_eq!(rt; credentials_of(NEITHER, value), Credentials::Absent);
+/// Stops where what a header's value gives isn't what stands behind the bar in its line, or where it gives anything by schemes that aren't taken.
+fn assert_lines(
+    rt: &impl Abort,
+    alloc: Global,
+    taken: Schemes,
+    others: Schemes,
+    table: &str,
+) -> Result<(), Fail> {
+    for line in table.lines() {
+        let (value, wanted) = line.split_once('|').ok_or("no bar")?;
+        let value = value.as_bytes();
+        let found = format!(in alloc; "{:?}", credentials_of(taken, value))?;
+        let absent = credentials_of(others, value) == Credentials::Absent;
+        assert!(rt; absent && found.as_str() == wanted, "{line}");
     }
+    Ok(())
 }
 
+/// Values of the header, and what each gives where tokens of the scheme Bearer are taken.
+const OF_BEARER: &str = "Bearer a.b.c|Token(Bearer, 7, 12)
+bearer a.b.c|Token(Bearer, 7, 12)
+BEARER a.b.c|Token(Bearer, 7, 12)
+Bearer  a.b.c|Token(Bearer, 8, 13)
+ \tBearer a.b.c \t|Token(Bearer, 9, 14)
+Bearer a.b.c=|Token(Bearer, 7, 13)
+Bearer -._~+/9Zz==|Token(Bearer, 7, 18)
+|Absent
+Basic YW5uOmFubg==|Absent
+Bearers a.b.c|Absent
+Beare a.b.c|Absent
+a.b.c|Absent
+Bearer\ta.b.c|Absent
+Bearera.b.c|Absent
+Bearer|Malformed(Bearer)
+Bearer |Malformed(Bearer)
+Bearer a b|Malformed(Bearer)
+Bearer a,b|Malformed(Bearer)
+Bearer \"a.b.c\"|Malformed(Bearer)
+Bearer a=.b.c|Malformed(Bearer)
+Bearer ==|Malformed(Bearer)
+Bearer %a|Malformed(Bearer)
+Bearer \u{e9}a|Malformed(Bearer)
+Bearer a.b\tc|Malformed(Bearer)
+DPoP a.b.c|Absent";
+
 #[test]
-fn a_header_carries_a_token_that_is_bound_to_a_key(rt: HostRuntime) {
-    let rows: [(&[u8], Credentials); 12] = [
-        (b"DPoP a.b.c", Credentials::Token(Scheme::Dpop, 5, 10)),
-        (b"dpop a.b.c", Credentials::Token(Scheme::Dpop, 5, 10)),
-        (b"\tDPOP  a.b.c= ", Credentials::Token(Scheme::Dpop, 7, 13)),
-        (b"DPoP", Credentials::Malformed(Scheme::Dpop)),
-        (b"DPoP a,b", Credentials::Malformed(Scheme::Dpop)),
-        (
-            b"DPoP a.b.c, DPoP a.b.c",
-            Credentials::Malformed(Scheme::Dpop),
-        ),
-        (b"DPoP Bearer a.b.c", Credentials::Malformed(Scheme::Dpop)),
-        (b"DPo a.b.c", Credentials::Absent),
-        (b"DPoPs a.b.c", Credentials::Absent),
-        (b"DPoP\ta.b.c", Credentials::Absent),
-        (b"D-PoP a.b.c", Credentials::Absent),
-        (b"", Credentials::Absent),
-    ];
-    for (value, wanted) in rows.iter() {
-        assert_eq!(rt; credentials_of(DPOP, value), *wanted);
-        assert_eq!(rt; credentials_of(BOTH, value), *wanted);
-        assert_eq!(rt; credentials_of(BEARER, value), Credentials::Absent);
-    }
+fn a_header_carries_a_token(rt: HostRuntime) -> Result<(), Fail> {
+    assert_lines(&rt, rt.alloc(), BEARER, NEITHER, OF_BEARER)
+}
+
+/// Values of the header, and what each gives where tokens of the scheme DPoP are taken.
+const OF_DPOP: &str = "DPoP a.b.c|Token(Dpop, 5, 10)
+dpop a.b.c|Token(Dpop, 5, 10)
+\tDPOP  a.b.c= |Token(Dpop, 7, 13)
+DPoP|Malformed(Dpop)
+DPoP a,b|Malformed(Dpop)
+DPoP a.b.c, DPoP a.b.c|Malformed(Dpop)
+DPoP Bearer a.b.c|Malformed(Dpop)
+DPo a.b.c|Absent
+DPoPs a.b.c|Absent
+DPoP\ta.b.c|Absent
+D-PoP a.b.c|Absent
+|Absent";
+
+#[test]
+fn a_header_carries_a_token_that_is_bound_to_a_key(rt: HostRuntime) -> Result<(), Fail> {
+    assert_lines(&rt, rt.alloc(), DPOP, BEARER, OF_DPOP)?;
+    assert_lines(&rt, rt.alloc(), BOTH, BEARER, OF_DPOP)
+}
+
+/// Stops where other credentials are found.
+fn same(rt: &impl Abort, found: Credentials, wanted: Credentials) {
+    assert_eq!(rt; found, wanted);
+}
+
+/// Stops where something doesn't hold.
+fn holds(rt: &impl Abort, it: bool) {
+    assert!(rt; it);
 }
 
 #[test]
 fn each_scheme_is_taken_beside_the_other(rt: HostRuntime) {
     let bearer = Credentials::Token(Scheme::Bearer, 7, 12);
-    assert_eq!(rt; credentials_of(BOTH, b"Bearer a.b.c"), bearer);
-    assert_eq!(rt; credentials_of(DPOP, b"Bearer a.b.c"), Credentials::Absent);
-    assert_eq!(rt;
-        credentials_of(BOTH, b"Bearer"),
-        Credentials::Malformed(Scheme::Bearer)
+    let malformed = Credentials::Malformed(Scheme::Bearer);
+    same(&rt, credentials_of(BOTH, b"Bearer a.b.c"), bearer);
+    same(
+        &rt,
+        credentials_of(DPOP, b"Bearer a.b.c"),
+        Credentials::Absent,
     );
-    assert_eq!(rt; credentials_of(BOTH, b"Basic a.b.c"), Credentials::Absent);
-    assert!(rt; BEARER.takes(Scheme::Bearer) && !BEARER.takes(Scheme::Dpop));
-    assert!(rt; DPOP.takes(Scheme::Dpop) && !DPOP.takes(Scheme::Bearer));
+    same(&rt, credentials_of(BOTH, b"Bearer"), malformed);
+    same(&rt, credentials_of(BOTH, b"Bearer \xe9a"), malformed);
+    same(
+        &rt,
+        credentials_of(BOTH, b"Basic a.b.c"),
+        Credentials::Absent,
+    );
+    holds(
+        &rt,
+        BEARER.takes(Scheme::Bearer) && !BEARER.takes(Scheme::Dpop),
+    );
+    holds(&rt, DPOP.takes(Scheme::Dpop) && !DPOP.takes(Scheme::Bearer));
 }
 
 #[test]
 fn several_headers_are_not_read(rt: HostRuntime) {
-    assert!(rt; credentials_in(BOTH, 2, b"Bearer a.b.c").is_none());
-    assert_eq!(rt;
-        credentials_in(BOTH, 1, b"Bearer a.b.c"),
-        Some(Credentials::Token(Scheme::Bearer, 7, 12))
-    );
-    assert_eq!(rt;
-        credentials_in(BOTH, 0, b"Bearer a.b.c"),
-        Some(Credentials::Absent)
+    let token = Credentials::Token(Scheme::Bearer, 7, 12);
+    holds(&rt, credentials_in(BOTH, 2, b"Bearer a.b.c").is_none());
+    holds(&rt, credentials_in(BOTH, 1, b"Bearer a.b.c") == Some(token));
+    holds(
+        &rt,
+        credentials_in(BOTH, 0, b"Bearer a.b.c") == Some(Credentials::Absent),
     );
 }
 
 /// Each outcome with its status, the challenge of the scheme that was shown, and that of another one.
-const REPLIES: [(Outcome, u16, Challenge, Challenge); 11] = [
-    (Outcome::Accepted, 200, Challenge::Silent, Challenge::Silent),
-    (
-        Outcome::Several,
-        400,
-        Challenge::InvalidRequest,
-        Challenge::InvalidRequest,
-    ),
-    (Outcome::Absent, 401, Challenge::Realm, Challenge::Realm),
-    (
-        Outcome::Malformed,
-        401,
-        Challenge::InvalidToken,
-        Challenge::Realm,
-    ),
-    (
-        Outcome::Refused,
-        401,
-        Challenge::InvalidToken,
-        Challenge::Realm,
-    ),
-    (
-        Outcome::ScopeMissing,
-        403,
-        Challenge::Scopes,
-        Challenge::Silent,
-    ),
-    (
-        Outcome::Denied,
-        403,
-        Challenge::InsufficientScope,
-        Challenge::Silent,
-    ),
-    (
-        Outcome::ProofRefused,
-        401,
-        Challenge::InvalidProof,
-        Challenge::Realm,
-    ),
-    (
-        Outcome::NonceWanted,
-        401,
-        Challenge::UseNonce,
-        Challenge::Realm,
-    ),
-    (
-        Outcome::KeysTooOld,
-        503,
-        Challenge::Silent,
-        Challenge::Silent,
-    ),
-    (
-        Outcome::Unanswered,
-        500,
-        Challenge::Silent,
-        Challenge::Silent,
-    ),
+static REPLIES: [(Outcome, u16, Challenge, Challenge); 11] = [
+    (Outcome::Accepted, 200, Silent, Silent),
+    (Outcome::Several, 400, InvalidRequest, InvalidRequest),
+    (Outcome::Absent, 401, Realm, Realm),
+    (Outcome::Malformed, 401, InvalidToken, Realm),
+    (Outcome::Refused, 401, InvalidToken, Realm),
+    (Outcome::ScopeMissing, 403, Scopes, Silent),
+    (Outcome::Denied, 403, InsufficientScope, Silent),
+    (Outcome::ProofRefused, 401, InvalidProof, Realm),
+    (Outcome::NonceWanted, 401, UseNonce, Realm),
+    (Outcome::KeysTooOld, 503, Silent, Silent),
+    (Outcome::Unanswered, 500, Silent, Silent),
 ];
 
 /// What is answered with these challenges, of which one is that of Bearer, and the other that of DPoP.
@@ -186,124 +168,128 @@ fn reply_of(status: u16, bearer: Challenge, dpop: Challenge) -> Reply {
     }
 }
 
+/// Whether an outcome has these replies, by the schemes that are taken and the one that was shown.
+fn has_replies(outcome: Outcome, status: u16, error: Challenge, other: Challenge) -> bool {
+    // a 401 would have a challenge, and where no scheme is taken there is none
+    let failed = if status == 401 { 500 } else { status };
+    let rows = [
+        (BEARER, Some(Scheme::Bearer), status, error, Silent),
+        (DPOP, Some(Scheme::Dpop), status, Silent, error),
+        (BOTH, Some(Scheme::Bearer), status, error, other),
+        (BOTH, Some(Scheme::Dpop), status, other, error),
+        (BOTH, None, status, other, other),
+        (BEARER, None, status, other, Silent),
+        (BEARER, Some(Scheme::Dpop), status, other, Silent),
+        (NEITHER, Some(Scheme::Bearer), failed, Silent, Silent),
+    ];
+    for (schemes, shown, status, bearer, dpop) in rows {
+        if reply_to(schemes, shown, outcome) != reply_of(status, bearer, dpop) {
+            return false;
+        }
+    }
+    true
+}
+
 #[test]
 fn each_outcome_has_its_reply(rt: HostRuntime) {
-    let none = Challenge::Silent;
-    for (outcome, status, error, other) in REPLIES.iter() {
-        let (status, error, other) = (*status, *error, *other);
-        let rows = [
-            (BEARER, Some(Scheme::Bearer), error, none),
-            (DPOP, Some(Scheme::Dpop), none, error),
-            (BOTH, Some(Scheme::Bearer), error, other),
-            (BOTH, Some(Scheme::Dpop), other, error),
-            (BOTH, None, other, other),
-            (BEARER, None, other, none),
-            (BEARER, Some(Scheme::Dpop), other, none),
-        ];
-        for (schemes, shown, bearer, dpop) in rows.iter() {
-            let reply = reply_to(*schemes, *shown, *outcome);
-            assert_eq!(rt; reply, reply_of(status, *bearer, *dpop));
-        }
-        // a 401 would have a challenge, and where no scheme is taken there is none
-        let failed = if status == 401 { 500 } else { status };
-        let reply = reply_to(NEITHER, Some(Scheme::Bearer), *outcome);
-        assert_eq!(rt; reply, reply_of(failed, none, none));
+    for &(outcome, status, error, other) in &REPLIES {
+        assert!(rt; has_replies(outcome, status, error, other), "{status}");
     }
 }
 
 #[test]
 fn a_realm_is_quotable_or_refused(rt: HostRuntime) {
-    for text in [&b""[..], b"jwt", b"a realm, with ~ and !"].iter() {
-        assert!(rt; is_quotable(text));
+    for text in ["", "jwt", "a realm, with ~ and !"] {
+        holds(&rt, is_quotable(text.as_bytes()));
     }
-    for text in [
-        &b"a\"b"[..],
-        b"a\\b",
-        b"a\nb",
-        b"a\tb",
-        b"\x7f",
-        b"\xc3\xa9",
-    ]
-    .iter()
-    {
-        assert!(rt; !is_quotable(text));
+    for text in ["a\"b", "a\\b", "a\nb", "a\tb", "\u{7f}", "\u{e9}"] {
+        holds(&rt, !is_quotable(text.as_bytes()));
     }
 }
 
-/// Each challenge with its text for Bearer, and for DPoP.
-const TEXTS: [(Challenge, &[u8], &[u8]); 8] = [
-    (Challenge::Silent, b"", b""),
-    (
-        Challenge::Realm,
-        b"Bearer realm=\"jwt\"",
-        b"DPoP algs=\"ES256 PS256\"",
-    ),
-    (
-        Challenge::InvalidRequest,
-        b"Bearer error=\"invalid_request\"",
-        b"DPoP algs=\"ES256 PS256\", error=\"invalid_request\"",
-    ),
-    (
-        Challenge::InvalidToken,
-        b"Bearer error=\"invalid_token\"",
-        b"DPoP algs=\"ES256 PS256\", error=\"invalid_token\"",
-    ),
-    (
-        Challenge::InsufficientScope,
-        b"Bearer error=\"insufficient_scope\"",
-        b"DPoP algs=\"ES256 PS256\", error=\"insufficient_scope\"",
-    ),
-    (
-        Challenge::Scopes,
-        b"Bearer error=\"insufficient_scope\", scope=\"read write\"",
-        b"DPoP algs=\"ES256 PS256\", error=\"insufficient_scope\", scope=\"read write\"",
-    ),
-    (
-        Challenge::InvalidProof,
-        b"Bearer error=\"invalid_dpop_proof\"",
-        b"DPoP algs=\"ES256 PS256\", error=\"invalid_dpop_proof\"",
-    ),
-    (
-        Challenge::UseNonce,
-        b"Bearer error=\"use_dpop_nonce\"",
-        b"DPoP algs=\"ES256 PS256\", error=\"use_dpop_nonce\"",
-    ),
+/// The challenges.
+static CHALLENGES: [Challenge; 8] = [
+    Silent,
+    Realm,
+    InvalidRequest,
+    InvalidToken,
+    InsufficientScope,
+    Scopes,
+    InvalidProof,
+    UseNonce,
 ];
 
-#[test]
-fn a_challenge_is_written(rt: HostRuntime) {
+/// The text of each for Bearer, and for DPoP, a line each.
+const TEXTS: &str = "|
+Bearer realm=\"jwt\"|DPoP algs=\"ES256 PS256\"
+Bearer error=\"invalid_request\"|DPoP algs=\"ES256 PS256\", error=\"invalid_request\"
+Bearer error=\"invalid_token\"|DPoP algs=\"ES256 PS256\", error=\"invalid_token\"
+Bearer error=\"insufficient_scope\"|DPoP algs=\"ES256 PS256\", error=\"insufficient_scope\"
+Bearer error=\"insufficient_scope\", scope=\"read write\"|DPoP algs=\"ES256 PS256\", error=\"insufficient_scope\", scope=\"read write\"
+Bearer error=\"invalid_dpop_proof\"|DPoP algs=\"ES256 PS256\", error=\"invalid_dpop_proof\"
+Bearer error=\"use_dpop_nonce\"|DPoP algs=\"ES256 PS256\", error=\"use_dpop_nonce\"";
+
+/// Whether nothing was written from here on.
+fn is_untouched(out: &[u8], from: usize) -> bool {
+    out.iter().skip(from).all(|it| *it == b'.')
+}
+
+/// Whether a challenge is written as this text, and nothing behind it.
+fn is_written(challenge: Challenge, scheme: Scheme, wanted: &[u8]) -> bool {
     let texts = Texts {
         realm: b"jwt",
         scope: b"read write",
         algs: b"ES256 PS256",
     };
-    for (challenge, bearer, dpop) in TEXTS.iter() {
-        for (scheme, wanted) in [(Scheme::Bearer, bearer), (Scheme::Dpop, dpop)].iter() {
-            let mut out = [b'.'; 96];
-            let size = challenge.write(*scheme, &texts, &mut out);
-            assert_eq!(rt; size, Some(wanted.len()));
-            assert!(rt; out.starts_with(wanted));
-            assert!(rt; out.iter().skip(wanted.len()).all(|it| *it == b'.'));
-        }
+    let mut out = [b'.'; 96];
+    let size = challenge.write(scheme, &texts, &mut out);
+    size == Some(wanted.len()) && out.starts_with(wanted) && is_untouched(&out, wanted.len())
+}
+
+/// Stops where a challenge is written otherwise than its line says.
+fn assert_written(rt: &impl Abort, table: &str, challenges: &[Challenge]) -> Result<(), Fail> {
+    for (line, challenge) in table.lines().zip(challenges) {
+        let (bearer, dpop) = line.split_once('|').ok_or("no bar")?;
+        assert!(rt;
+            is_written(*challenge, Scheme::Bearer, bearer.as_bytes()),
+            "{line}"
+        );
+        assert!(rt;
+            is_written(*challenge, Scheme::Dpop, dpop.as_bytes()),
+            "{line}"
+        );
     }
+    Ok(())
 }
 
 #[test]
-fn a_challenge_that_has_no_room_is_not_written(rt: HostRuntime) {
+fn a_challenge_is_written(rt: HostRuntime) -> Result<(), Fail> {
+    assert_written(&rt, TEXTS, &CHALLENGES)
+}
+
+/// Whether a challenge of 56 octets is written where there is so much room, and nothing where there is less.
+fn needs_room(room: usize) -> bool {
     let texts = Texts {
         realm: b"",
         scope: b"a",
         algs: b"ES256",
     };
     let wanted = b"DPoP algs=\"ES256\", error=\"insufficient_scope\", scope=\"a\"";
-    for room in [0, 1, 11, 16, 30, 52, 53, 54, 55, 56].iter() {
-        let mut out = [b'.'; 56];
-        let size = match out.get_mut(..*room) {
-            Some(short) => Challenge::Scopes.write(Scheme::Dpop, &texts, short),
-            None => None,
-        };
-        assert_eq!(rt; size.is_some(), *room >= wanted.len());
-        assert_eq!(rt; out.starts_with(wanted), *room >= wanted.len());
-        assert_eq!(rt; out.iter().all(|it| *it == b'.'), *room < wanted.len());
+    let mut out = [b'.'; 56];
+    let size = match out.get_mut(..room) {
+        Some(short) => Scopes.write(Scheme::Dpop, &texts, short),
+        None => None,
+    };
+    if room >= wanted.len() {
+        size.is_some() && out.starts_with(wanted)
+    } else {
+        size.is_none() && is_untouched(&out, 0)
+    }
+}
+
+#[test]
+fn a_challenge_that_has_no_room_is_not_written(rt: HostRuntime) {
+    for room in [0, 1, 11, 16, 30, 52, 53, 54, 55, 56] {
+        holds(&rt, needs_room(room));
     }
 }

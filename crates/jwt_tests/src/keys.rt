@@ -3,7 +3,6 @@ use jwt_keys::{KeySet, KeysFault, Skip, SkipReason};
 use jwt_mac::KeyView;
 use jwt_support::examples::{RSA_THUMBPRINT, key_set};
 use jwt_support::texts::repeated;
-use jwt_text::object;
 use std::alloc::Global;
 use std::process::Abort;
 use std::test::Fail;
@@ -59,20 +58,6 @@ fn unreadable_entries_are_skipped_and_readable_ones_numbered(rt: HostRuntime) ->
     let keys = KeySet::read(rt.alloc(), MIXED.as_bytes())?;
     let mixed = is_mixed(&keys);
     assert!(rt; mixed);
-    Ok(())
-}
-
-/// An object is a key set of one key, or of none.
-#[test]
-fn one_object_is_a_key_set(rt: HostRuntime) -> Result<(), Fail> {
-    let alloc = rt.alloc();
-    let document = object(alloc, br#"{"kty":"oct","k":"AA","kid":"one"}"#)?;
-    let keys = KeySet::of_entry(alloc, document.lend())?;
-    assert_eq!(rt; (keys.len(), keys.skipped().len()), (1, 0));
-    assert_eq!(rt; keys.with_kid("one", false, 0), Some(0));
-    let document = object(alloc, br#"{"kty":"oct"}"#)?;
-    let keys = KeySet::of_entry(alloc, document.lend())?;
-    assert_eq!(rt; (keys.len(), keys.skipped().len()), (0, 1));
     Ok(())
 }
 

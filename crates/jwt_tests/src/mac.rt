@@ -3,7 +3,7 @@ ghost use Rattle.std.specs.Prelude.{◌≡◌};
 
 use jwt_mac::{
     Alg, Answer, Budget, CountDown, CountUp, EdCurve, KeyView, Message, Spent, Verifier, ask, cost,
-    first_for, hmac, sha256,
+    first_for, hmac,
 };
 use jwt_support::verifiers::{SAME, TestVerifier};
 use std::alloc::Global;
@@ -17,7 +17,8 @@ struct Vector {
     key: &'static [u8],
     parts: [&'static [u8]; 3],
     cost: u64,
-    tag: &'static [u8],
+    /// In hex.
+    tag: &'static str,
 }
 
 const JEFE: [u8; 4] = *b"Jefe";
@@ -46,12 +47,6 @@ const TOKEN: [&[u8]; 3] = [
     b"eyJpc3MiOiJqb2UiLA0KICJleHAiOjEzMDA4MTkzODAsDQogImh0dHA6Ly9leGFtcGxlLmNvbS9pc19yb290Ijp0cnVlfQ",
 ];
 
-// The tag of the second case by HS256.
-const TAG_2: [u8; 32] = [
-    0x5b, 0xdc, 0xc1, 0x46, 0xbf, 0x60, 0x75, 0x4e, 0x6a, 0x04, 0x24, 0x26, 0x08, 0x95, 0x75, 0xc7,
-    0x5a, 0x00, 0x3f, 0x08, 0x9d, 0x27, 0x39, 0x83, 0x9d, 0xec, 0x58, 0xb9, 0x64, 0xec, 0x38, 0x43,
-];
-
 // RFC 4231, cases 2 and 6 (sections 4.3 and 4.7), and RFC 7515, Appendix A.1.
 static VECTORS: [Vector; 7] = [
     Vector {
@@ -59,84 +54,54 @@ static VECTORS: [Vector; 7] = [
         key: &JEFE,
         parts: CASE_2,
         cost: 188,
-        tag: &TAG_2,
+        tag: "5bdcc146bf60754e6a042426089575c75a003f089d2739839dec58b964ec3843",
     },
     Vector {
         alg: Alg::HS384,
         key: &JEFE,
         parts: CASE_2,
         cost: 332,
-        tag: &[
-            0xaf, 0x45, 0xd2, 0xe3, 0x76, 0x48, 0x40, 0x31, 0x61, 0x7f, 0x78, 0xd2, 0xb5, 0x8a,
-            0x6b, 0x1b, 0x9c, 0x7e, 0xf4, 0x64, 0xf5, 0xa0, 0x1b, 0x47, 0xe4, 0x2e, 0xc3, 0x73,
-            0x63, 0x22, 0x44, 0x5e, 0x8e, 0x22, 0x40, 0xca, 0x5e, 0x69, 0xe2, 0xc7, 0x8b, 0x32,
-            0x39, 0xec, 0xfa, 0xb2, 0x16, 0x49,
-        ],
+        tag: "af45d2e376484031617f78d2b58a6b1b9c7ef464f5a01b47e42ec3736322445e8e2240ca5e69e2c78b3239ecfab21649",
     },
     Vector {
         alg: Alg::HS512,
         key: &JEFE,
         parts: CASE_2,
         cost: 348,
-        tag: &[
-            0x16, 0x4b, 0x7a, 0x7b, 0xfc, 0xf8, 0x19, 0xe2, 0xe3, 0x95, 0xfb, 0xe7, 0x3b, 0x56,
-            0xe0, 0xa3, 0x87, 0xbd, 0x64, 0x22, 0x2e, 0x83, 0x1f, 0xd6, 0x10, 0x27, 0x0c, 0xd7,
-            0xea, 0x25, 0x05, 0x54, 0x97, 0x58, 0xbf, 0x75, 0xc0, 0x5a, 0x99, 0x4a, 0x6d, 0x03,
-            0x4f, 0x65, 0xf8, 0xf0, 0xe6, 0xfd, 0xca, 0xea, 0xb1, 0xa3, 0x4d, 0x4a, 0x6b, 0x4b,
-            0x63, 0x6e, 0x07, 0x0a, 0x38, 0xbc, 0xe7, 0x37,
-        ],
+        tag: "164b7a7bfcf819e2e395fbe73b56e0a387bd64222e831fd610270cd7ea2505549758bf75c05a994a6d034f65f8f0e6fdcaeab1a34d4a6b4b636e070a38bce737",
     },
     Vector {
         alg: Alg::HS256,
         key: &LONG_KEY,
         parts: CASE_6,
         cost: 345,
-        tag: &[
-            0x60, 0xe4, 0x31, 0x59, 0x1e, 0xe0, 0xb6, 0x7f, 0x0d, 0x8a, 0x26, 0xaa, 0xcb, 0xf5,
-            0xb7, 0x7f, 0x8e, 0x0b, 0xc6, 0x21, 0x37, 0x28, 0xc5, 0x14, 0x05, 0x46, 0x04, 0x0f,
-            0x0e, 0xe3, 0x7f, 0x54,
-        ],
+        tag: "60e431591ee0b67f0d8a26aacbf5b77f8e0bc6213728c5140546040f0ee37f54",
     },
     Vector {
         alg: Alg::HS384,
         key: &LONG_KEY,
         parts: CASE_6,
         cost: 489,
-        tag: &[
-            0x4e, 0xce, 0x08, 0x44, 0x85, 0x81, 0x3e, 0x90, 0x88, 0xd2, 0xc6, 0x3a, 0x04, 0x1b,
-            0xc5, 0xb4, 0x4f, 0x9e, 0xf1, 0x01, 0x2a, 0x2b, 0x58, 0x8f, 0x3c, 0xd1, 0x1f, 0x05,
-            0x03, 0x3a, 0xc4, 0xc6, 0x0c, 0x2e, 0xf6, 0xab, 0x40, 0x30, 0xfe, 0x82, 0x96, 0x24,
-            0x8d, 0xf1, 0x63, 0xf4, 0x49, 0x52,
-        ],
+        tag: "4ece084485813e9088d2c63a041bc5b44f9ef1012a2b588f3cd11f05033ac4c60c2ef6ab4030fe8296248df163f44952",
     },
     Vector {
         alg: Alg::HS512,
         key: &LONG_KEY,
         parts: CASE_6,
         cost: 505,
-        tag: &[
-            0x80, 0xb2, 0x42, 0x63, 0xc7, 0xc1, 0xa3, 0xeb, 0xb7, 0x14, 0x93, 0xc1, 0xdd, 0x7b,
-            0xe8, 0xb4, 0x9b, 0x46, 0xd1, 0xf4, 0x1b, 0x4a, 0xee, 0xc1, 0x12, 0x1b, 0x01, 0x37,
-            0x83, 0xf8, 0xf3, 0x52, 0x6b, 0x56, 0xd0, 0x37, 0xe0, 0x5f, 0x25, 0x98, 0xbd, 0x0f,
-            0xd2, 0x21, 0x5d, 0x6a, 0x1e, 0x52, 0x95, 0xe6, 0x4f, 0x73, 0xf6, 0x3f, 0x0a, 0xec,
-            0x8b, 0x91, 0x5a, 0x98, 0x5d, 0x78, 0x65, 0x98,
-        ],
+        tag: "80b24263c7c1a3ebb71493c1dd7be8b49b46d1f41b4aeec1121b013783f8f3526b56d037e05f2598bd0fd2215d6a1e5295e64f73f63f0aec8b915a985d786598",
     },
     Vector {
         alg: Alg::HS256,
         key: &BLOCK_KEY,
         parts: TOKEN,
         cost: 295,
-        tag: &[
-            0x74, 0x18, 0xdf, 0xb4, 0x97, 0x99, 0xe0, 0x25, 0x4f, 0xfa, 0x60, 0x7d, 0xd8, 0xad,
-            0xbb, 0xba, 0x16, 0xd4, 0x25, 0x4d, 0x69, 0xd6, 0xbf, 0xf0, 0x5b, 0x58, 0x05, 0x58,
-            0x53, 0x84, 0x8d, 0x79,
-        ],
+        tag: "7418dfb49799e0254ffa607dd8adbbba16d4254d69d6bff05b58055853848d79",
     },
 ];
 
 /// The vector's tag and its length come out, for exactly its cost and one call, and nothing is left.
-fn pays<B: Budget>(b: &mut B, vector: &Vector) -> bool
+fn pays<B: Budget>(b: &mut B, vector: &Vector, wanted: &[u8]) -> bool
     requires { B.calls b.old ≡ 0 }
 {
     if !vector.alg.is_hmac() {
@@ -145,7 +110,7 @@ fn pays<B: Budget>(b: &mut B, vector: &Vector) -> bool
     let Ok(tag) = hmac(b, vector.alg, vector.key, vector.parts) else {
         return false;
     };
-    let same = tag.octets() == vector.tag && tag.equals(vector.tag);
+    let same = tag.octets() == wanted && tag.equals(wanted);
     same && b.octets() == vector.cost && b.left() == 0 && b.calls() == 1
 }
 
@@ -163,53 +128,25 @@ fn refuses<B: Budget>(b: &mut B, vector: &Vector) -> bool
     spent && b.octets() == 0 && b.left() == vector.cost.saturating_sub(1) && b.calls() == 0
 }
 
+/// Whether both budgets pay the vector at its cost, and refuse it one octet below.
+fn is_paid_by_both(vector: &Vector, tag: &[u8]) -> bool {
+    let cost = vector.cost;
+    let less = cost.saturating_sub(1);
+    pays(&mut CountUp::new(cost), vector, tag)
+        && pays(&mut CountDown::new(cost), vector, tag)
+        && refuses(&mut CountUp::new(less), vector)
+        && refuses(&mut CountDown::new(less), vector)
+}
+
 /// The vectors of RFC 4231, each at the cost that is stated and refused one octet below it.
 #[test]
-fn hmac_vectors_at_their_cost_by_both_budgets(rt: HostRuntime) {
+fn hmac_vectors_at_their_cost_by_both_budgets(rt: HostRuntime) -> Result<(), Fail> {
     for vector in &VECTORS {
+        let tag = hex::decode(rt.alloc(), vector.tag.as_bytes())?;
         let cost = vector.cost;
-        assert!(rt;
-            pays(&mut CountUp::new(cost), vector),
-            "counting up to {cost}"
-        );
-        assert!(rt;
-            pays(&mut CountDown::new(cost), vector),
-            "counting down from {cost}"
-        );
-        let less = cost.saturating_sub(1);
-        assert!(rt;
-            refuses(&mut CountUp::new(less), vector),
-            "counting up to {less}"
-        );
-        assert!(rt;
-            refuses(&mut CountDown::new(less), vector),
-            "counting down from {less}"
-        );
+        assert!(rt; is_paid_by_both(vector, &tag), "{cost}");
     }
-}
-
-/// Whether the tag of the second case by HS256 equals these octets.
-fn tag_equals(octets: &[u8]) -> bool {
-    match hmac(&mut CountUp::new(188), Alg::HS256, b"Jefe", CASE_2) {
-        Ok(tag) => tag.equals(octets),
-        Err(Spent) => false,
-    }
-}
-
-/// A tag that is shorter, longer or of other octets isn't equal.
-#[test]
-fn a_tag_is_no_prefix_and_no_other_octets(rt: HostRuntime) {
-    let mut other = [0u8; 33];
-    other[..32].copy_from_slice(&TAG_2);
-    assert!(rt; tag_equals(&other[..32]));
-    assert!(rt; !tag_equals(&other));
-    assert!(rt; !tag_equals(&other[..31]));
-    assert!(rt; !tag_equals(b""));
-    other[31] ^= 1;
-    assert!(rt; !tag_equals(&other[..32]));
-    other[31] ^= 1;
-    other[0] ^= 128;
-    assert!(rt; !tag_equals(&other[..32]));
+    Ok(())
 }
 
 /// An algorithm, the lengths of key and message, and the cost.
@@ -237,40 +174,6 @@ fn costs(rt: HostRuntime) {
             "{alg:?} {key_len} {message_len}"
         );
     }
-}
-
-/// The names of the algorithms (RFC 7518, section 3.1; RFC 8037, section 3.1).
-static NAMES: [&str; 13] = [
-    "HS256", "HS384", "HS512", "RS256", "RS384", "RS512", "PS256", "PS384", "PS512", "ES256",
-    "ES384", "ES512", "EdDSA",
-];
-
-/// What names none.
-static NO_NAMES: [&str; 7] = ["", "none", "hs256", "HS256 ", "HS25", "ES256K", "EDDSA"];
-
-/// Each algorithm has its name, and no other text names one (RFC 7518, section 3.1).
-#[test]
-fn names(rt: HostRuntime) {
-    for &name in &NAMES {
-        assert_eq!(rt; Alg::from_text(name).map(|alg| alg.text()), Some(name));
-    }
-    for &name in &NO_NAMES {
-        assert!(rt; Alg::from_text(name).is_none(), "{name}");
-    }
-}
-
-/// FIPS 180-4's example of one block, as SHA-256 of `abc`.
-#[test]
-fn sha256_of_three_parts(rt: HostRuntime) {
-    let digest = sha256([b"a", b"b", b"c"]);
-    assert_eq!(rt;
-        digest,
-        [
-            0xba, 0x78, 0x16, 0xbf, 0x8f, 0x01, 0xcf, 0xea, 0x41, 0x41, 0x40, 0xde, 0x5d, 0xae,
-            0x22, 0x23, 0xb0, 0x03, 0x61, 0xa3, 0x96, 0x17, 0x7a, 0x9c, 0xb4, 0x10, 0xff, 0x61,
-            0xf2, 0x00, 0x15, 0xad,
-        ]
-    );
 }
 
 /// It names RS256 and PS256, counts in a cell how often it was asked, and answers Invalid twice and

@@ -5,8 +5,8 @@ use jwt_support::examples::TOKEN_A;
 use jwt_support::streams::{Drip, Endless, Narrow};
 use jwt_support::texts::nested;
 use jwt_text::{
-    Intake, List, Object, ObjectOut, ObjectRef, Part, Reader, Sink, Source, TextFault, Writer,
-    Written, decode, encode, object, quoted, write_out,
+    Intake, Object, ObjectOut, ObjectRef, Reader, Sink, Source, TextFault, Writer, Written, decode,
+    encode, object, quoted, write_out,
 };
 use std::alloc::Global;
 use std::io::{self, ErrorKind, Read, Write};
@@ -165,21 +165,6 @@ fn feeds_up_to_one_octet_past_the_limit(rt: HostRuntime) {
     assert!(rt; is_fed_to_the_limit(rt.alloc()));
 }
 
-/// A slice is a source, and a vector a sink.
-#[test]
-fn reads_a_slice_and_writes_into_a_vector(rt: HostRuntime) -> Result<(), Fail> {
-    let octets: &[u8] = b"abc";
-    let mut intake = Intake::new(rt.alloc(), 10);
-    intake.read_from(&mut Reader::new(octets))?;
-    let mut out: Vec<u8> = Vec::new(rt.alloc());
-    assert_eq!(rt;
-        write_out(&mut Writer::new(&mut out), intake.octets()),
-        Ok(())
-    );
-    assert_eq!(rt; out.as_slice(), octets);
-    Ok(())
-}
-
 /// A token of 84 octets.
 const SENT: &[u8; 84] =
     b"eyJhbGciOiJIUzI1NiIsInR5cCI6IkpXVCJ9.e30.LwimMJA3puF3ioGeS-tfczR3370GXBZMIL-bdpu4hOU";
@@ -206,15 +191,6 @@ fn counts_what_went_out_before_a_failure(rt: HostRuntime) {
         assert!(rt; sink_counts(rt.alloc(), count), "a sink, {count}");
         assert!(rt; writer_counts(count), "a writer, {count}");
     }
-}
-
-/// A part gives the same octets whether it lends or owns them.
-#[test]
-fn a_part_lends_its_octets(rt: HostRuntime) -> Result<(), Fail> {
-    let octets = decode(rt.alloc(), b"Zm9v")?;
-    assert_eq!(rt; Part::Slice(b"foo").octets(), b"foo".as_slice());
-    assert_eq!(rt; Part::Owned(octets).octets(), b"foo".as_slice());
-    Ok(())
 }
 
 /// Octets and their text (RFC 4648, section 10, without padding).
@@ -246,21 +222,6 @@ fn spells_octets_in_one_way(rt: HostRuntime) -> Result<(), Fail> {
     assert_spellings(&rt, rt.alloc(), &SPELLINGS)?;
     let encoded = encode(rt.alloc(), &[0xfb, 0xff])?;
     assert_eq!(rt; encoded.as_slice(), b"-_8".as_slice());
-    Ok(())
-}
-
-/// Texts that are no base64url without padding.
-static NO_BASE64: [&str; 9] = [
-    "A", "AB", "AA=", "AA==", "A A", "A+AA", "A/AA", "AAAA\n", "AAAAA",
-];
-
-/// Padding, spare bits, white space and other signs are refused.
-#[test]
-fn what_is_no_base64url_is_refused(rt: HostRuntime) -> Result<(), Fail> {
-    for text in &NO_BASE64 {
-        let fault = decode(rt.alloc(), text.as_bytes()).err();
-        assert_eq!(rt; fault, Some(TextFault::Base64), "at {text}");
-    }
     Ok(())
 }
 
@@ -439,96 +400,9 @@ fn a_text_nests_127_deep(rt: HostRuntime) -> Result<(), Fail> {
     Ok(())
 }
 
-/// Numbers, and a text.
-const NUMBERS: &[u8] =
-    br#"{"a":7,"b":-9223372036854775808,"c":9223372036854775807,"d":9223372036854775808,"e":-0,"f":1e3,"g":1.0,"h":1e-999,"i":"7"}"#;
-
-/// Members of [`NUMBERS`], the whole number that each is, and whether it is a number.
-static WHOLES: [(&str, Option<i64>, bool); 10] = [
-    ("a", Some(7), true),
-    ("b", Some(i64::MIN), true),
-    ("c", Some(i64::MAX), true),
-    ("d", None, true),
-    ("e", None, true),
-    ("f", None, true),
-    ("g", None, true),
-    ("h", None, true),
-    ("i", None, false),
-    ("j", None, false),
-];
-
-/// A whole number within 64 signed bits is told; any other number is a number and no whole one.
-#[test]
-fn numbers_are_whole_within_64_bits(rt: HostRuntime) -> Result<(), Fail> {
-    let numbers = object(rt.alloc(), NUMBERS)?;
-    for &(name, want, is_number) in &WHOLES {
-        assert_eq!(rt; numbers.whole(name), want, "at {name}");
-        assert_eq!(rt; numbers.number(name), is_number, "at {name}");
-    }
-    Ok(())
-}
-
 // Members of each kind.
 const MEMBERS: &[u8] =
     br#"{"t":"a\u0062","f":true,"l":["x",{"y":1},2],"o":{"b":1},"aud":[ "a" ],"none":[],"n":null}"#;
-
-/// Whether texts and flags are answered by name and kind.
-fn texts_and_flags_are_read(all: ObjectRef<'_>) -> bool {
-    all.text("t") == Some("ab")
-        && all.text("f").is_none()
-        && all.flag("f") == Some(true)
-        && all.flag("t").is_none()
-}
-
-/// Whether the names are told in their order.
-fn names_are_read(all: ObjectRef<'_>) -> bool {
-    all.has("n")
-        && !all.has("N")
-        && all.name(0) == Some("aud")
-        && all.list("o").is_none()
-        && all.object("l").is_none()
-}
-
-/// Whether the elements of a list are answered by place and kind.
-fn elements_are_read(list: &List<'_>) -> bool {
-    list.len() == 3
-        && !list.is_empty()
-        && !list.are_texts()
-        && list.text(0) == Some("x")
-        && list.text(1).is_none()
-        && list.text(3).is_none()
-}
-
-/// Whether an object in the object is answered by its name.
-fn objects_are_read(list: &List<'_>) -> bool {
-    match list.object(1) {
-        Some(inner) => inner.whole("y") == Some(1) && list.object(2).is_none(),
-        None => false,
-    }
-}
-
-/// Whether lists are answered by name, and whether they hold texts alone.
-fn lists_are_read(all: ObjectRef<'_>) -> bool {
-    match (all.list("l"), all.list("none")) {
-        (Some(list), Some(none)) => {
-            elements_are_read(&list)
-                && objects_are_read(&list)
-                && none.is_empty()
-                && none.are_texts()
-        }
-        _ => false,
-    }
-}
-
-/// Each reader answers a member of its kind, and nothing of another one.
-#[test]
-fn readers_answer_by_name_and_kind(rt: HostRuntime) -> Result<(), Fail> {
-    let all = object(rt.alloc(), MEMBERS)?;
-    let members = texts_and_flags_are_read(all.lend()) && names_are_read(all.lend());
-    let lists = lists_are_read(all.lend());
-    assert!(rt; members && lists);
-    Ok(())
-}
 
 /// Whether a copy of an object in the object reads as that one.
 fn copy_is_read(copy: &Object, inner: ObjectRef<'_>, all: ObjectRef<'_>) -> bool {

@@ -176,10 +176,8 @@ fn is_refusal(said: Option<&str>) -> bool {
     }
 }
 
-/// A token that was read is judged as its octets are.
-#[test]
-fn a_token_that_was_read_is_judged(rt: HostRuntime) -> Result<(), Fail> {
-    let alloc = rt.alloc();
+/// How many pairs are tried on the token where it is read first, and accepted then.
+fn tries_of_read_token(alloc: Global) -> Result<Option<usize>, Fail> {
     let keys = key_set(alloc, r#"{"kty":"oct","k":"<KEY_A>"}"#)?;
     let policy = Policy::read(alloc, HS256.as_bytes())
         .ok()
@@ -199,16 +197,16 @@ fn a_token_that_was_read_is_judged(rt: HostRuntime) -> Result<(), Fail> {
         &mut budget,
         &mut scratch,
     );
-    let accepted = matches!(
-        &report.verdict,
-        Verdict::Accepted {
-            signature: 0,
-            key: 0,
-            ..
-        }
-    );
-    assert!(rt; accepted);
-    assert_eq!(rt; report.tries.len(), 1);
+    match &report.verdict {
+        Verdict::Accepted { .. } => Ok(Some(report.tries.len())),
+        Verdict::Refused(_) => Ok(None),
+    }
+}
+
+/// A token that was read is judged as its octets are.
+#[test]
+fn a_token_that_was_read_is_judged(rt: HostRuntime) -> Result<(), Fail> {
+    assert_eq!(rt; tries_of_read_token(rt.alloc())?, Some(1));
     Ok(())
 }
 
