@@ -1,4 +1,5 @@
 //! Access rules.
+use crate::asserted::holds;
 use jwt_access::{AccessFault, AccessRule, Moment};
 use jwt_policy::Claims;
 use std::alloc::Global;
@@ -45,7 +46,7 @@ fn are_told(alloc: Global) -> Result<bool, Fail> {
 /// Each fault and each denial has its name and what it is about.
 #[test]
 fn faults_and_denials_are_printed(rt: HostRuntime) -> Result<(), Fail> {
-    assert!(rt; are_told(rt.alloc())?);
+    holds(&rt, are_told(rt.alloc())?);
     Ok(())
 }
 
@@ -74,6 +75,6 @@ fn is_refused_or_lacks(alloc: Global) -> bool {
 #[test]
 fn a_refused_growth_is_no_rule(rt: HostRuntime) {
     let alloc = rt.alloc();
-    assert!(rt; is_read_or_lacks(alloc));
-    assert!(rt; is_refused_or_lacks(alloc));
+    holds(&rt, is_read_or_lacks(alloc));
+    holds(&rt, is_refused_or_lacks(alloc));
 }

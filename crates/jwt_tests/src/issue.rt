@@ -1,6 +1,7 @@
 //! Issuing.
 ghost use Rattle.std.specs.Prelude.{◌≤◌};
 
+use crate::asserted::holds;
 use jwt_issue::{BuildFault, Builder, ClaimSet, IssueFault, issue_compact, issue_flat, issue_json};
 use jwt_keys::{Key, KeySet};
 use jwt_mac::{Alg, Budget, CountUp};
@@ -131,14 +132,14 @@ fn issues(alloc: Global, order: IssueOrder, token: &str, cost: u64) -> bool {
 /// A token in compact form is the one that is stated, octet by octet.
 #[test]
 fn tokens_in_compact_form(rt: HostRuntime) {
-    assert!(rt; issues(rt.alloc(), FIRST, COMPACT, 200));
+    holds(&rt, issues(rt.alloc(), FIRST, COMPACT, 200));
     let order = IssueOrder {
         alg: Alg::HS512,
         key: 4,
         claims: r#"{ "sub" : "a" }"#,
         ..FIRST
     };
-    assert!(rt; issues(rt.alloc(), order, ESCAPED, 395));
+    holds(&rt, issues(rt.alloc(), order, ESCAPED, 395));
 }
 
 /// That of [`FLAT`].
@@ -151,7 +152,7 @@ const FLATTENED: IssueOrder = IssueOrder {
 /// A token in flattened form is the one that is stated, octet by octet.
 #[test]
 fn tokens_in_flattened_form(rt: HostRuntime) {
-    assert!(rt; issues(rt.alloc(), FLATTENED, FLAT, 184));
+    holds(&rt, issues(rt.alloc(), FLATTENED, FLAT, 184));
 }
 
 /// What may not sign: an algorithm, a key, and why.
@@ -353,7 +354,7 @@ fn gathered(alloc: Global) -> Result<ClaimSet, Fail> {
 fn claims_are_gathered_by_name(rt: HostRuntime) -> Result<(), Fail> {
     let claims = gathered(rt.alloc())?;
     let text = r#"{"aud":["x","y"],"b":true,"exp":5,"sub":"a"}"#;
-    assert!(rt; claims.octets() == text.as_bytes());
+    holds(&rt, claims.octets() == text.as_bytes());
     Ok(())
 }
 
@@ -374,8 +375,8 @@ fn refuses_list(alloc: Global) -> Result<bool, AllocError> {
 /// A registered claim of another kind isn't issued.
 #[test]
 fn claims_of_another_kind_are_refused(rt: HostRuntime) -> Result<(), Fail> {
-    assert!(rt; refuses_text_for_date(rt.alloc())?);
-    assert!(rt; refuses_list(rt.alloc())?);
+    holds(&rt, refuses_text_for_date(rt.alloc())?);
+    holds(&rt, refuses_list(rt.alloc())?);
     Ok(())
 }
 
@@ -399,11 +400,11 @@ fn is_or_lacks_memory(issued: Option<Issued>, token: &str, cost: u64) -> bool {
 fn a_refused_growth_is_out_of_memory(rt: HostRuntime) -> Result<(), Fail> {
     let alloc = rt.alloc();
     let compact = issue_from(alloc, FIRST);
-    assert!(rt; is_or_lacks_memory(compact, COMPACT, 200));
+    holds(&rt, is_or_lacks_memory(compact, COMPACT, 200));
     let flat = issue_from(alloc, FLATTENED);
-    assert!(rt; is_or_lacks_memory(flat, FLAT, 184));
+    holds(&rt, is_or_lacks_memory(flat, FLAT, 184));
     let pairs = [(Alg::HS256, 0), (Alg::HS256, 0)];
     let general = issue_general(alloc, &pairs, Some("JWT"), 1_000);
-    assert!(rt; is_or_lacks_memory(general, TYPED, 400));
+    holds(&rt, is_or_lacks_memory(general, TYPED, 400));
     Ok(())
 }

@@ -1,6 +1,7 @@
 //! The three forms of a signed token.
 ghost use Rattle.std.specs.Prelude.{◌≤◌, ◌<◌};
 
+use crate::asserted::holds;
 use jwt_jws::{FormFault, Place, Signature, parse};
 use jwt_support::examples::{TOKEN_A, filled};
 use jwt_support::texts::{nested, repeated};
@@ -165,8 +166,8 @@ fn counts_or_lacks(alloc: Global, octets: &[u8], count: u32) -> bool {
 fn a_refused_growth_is_out_of_memory(rt: HostRuntime) {
     let general =
         br#"{"payload":"e30","signatures":[{"signature":"AQAB"},{"protected":"eyJhbGciOiJIUzI1NiJ9","header":{"kid":"k"},"signature":"AQAB"}]}"#;
-    assert!(rt; counts_or_lacks(rt.alloc(), TOKEN_A.as_bytes(), 1));
-    assert!(rt; counts_or_lacks(rt.alloc(), general, 2));
+    holds(&rt, counts_or_lacks(rt.alloc(), TOKEN_A.as_bytes(), 1));
+    holds(&rt, counts_or_lacks(rt.alloc(), general, 2));
     assert!(rt;
         matches!(
             fault_of(rt.alloc(), br#"{"payload":"e30"}"#, 2),

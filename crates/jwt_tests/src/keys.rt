@@ -1,4 +1,5 @@
 //! Key sets.
+use crate::asserted::holds;
 use jwt_keys::{KeySet, KeysFault, Skip, SkipReason};
 use jwt_mac::KeyView;
 use jwt_support::examples::{RSA_THUMBPRINT, key_set};
@@ -57,7 +58,7 @@ fn is_mixed(keys: &KeySet) -> bool {
 fn unreadable_entries_are_skipped_and_readable_ones_numbered(rt: HostRuntime) -> Result<(), Fail> {
     let keys = KeySet::read(rt.alloc(), MIXED.as_bytes())?;
     let mixed = is_mixed(&keys);
-    assert!(rt; mixed);
+    holds(&rt, mixed);
     Ok(())
 }
 
@@ -314,5 +315,5 @@ fn is_read_or_lacks(alloc: Global) -> bool {
 /// Run with each allocation refused in turn.
 #[test]
 fn a_refused_growth_is_out_of_memory(rt: HostRuntime) {
-    assert!(rt; is_read_or_lacks(rt.alloc()));
+    holds(&rt, is_read_or_lacks(rt.alloc()));
 }

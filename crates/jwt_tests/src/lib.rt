@@ -5,6 +5,8 @@
 #[cfg(test)]
 mod access;
 #[cfg(test)]
+mod asserted;
+#[cfg(test)]
 mod door;
 #[cfg(test)]
 mod expected;

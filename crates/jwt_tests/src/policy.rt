@@ -1,4 +1,5 @@
 //! Policies, bars, eligible pairs and claims.
+use crate::asserted::holds;
 use jwt_jws::parse;
 use jwt_keys::Key;
 use jwt_mac::Verifier;
@@ -413,7 +414,7 @@ fn are_read_or_lack(alloc: Global) -> bool {
 #[test]
 fn a_refused_growth_is_out_of_memory(rt: HostRuntime) {
     let alloc = rt.alloc();
-    assert!(rt; is_read_or_lacks(alloc));
-    assert!(rt; is_refused_or_lacks(alloc));
-    assert!(rt; are_read_or_lack(alloc));
+    holds(&rt, is_read_or_lacks(alloc));
+    holds(&rt, is_refused_or_lacks(alloc));
+    holds(&rt, are_read_or_lack(alloc));
 }

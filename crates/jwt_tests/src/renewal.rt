@@ -1,10 +1,5 @@
+use crate::asserted::holds;
 use jwt_renewal::{Answer, Asker, Fetch, Renewal, Times};
-use std::process::Abort;
-
-/// Stops where something doesn't hold.
-fn holds(rt: &impl Abort, it: bool) {
-    assert!(rt; it);
-}
 
 const TIMES: Times = Times {
     refresh_after: 600,

@@ -1,3 +1,4 @@
+use crate::asserted::holds;
 use jwt_request::Challenge::{
     InsufficientScope, InvalidProof, InvalidRequest, InvalidToken, Realm, Scopes, Silent, UseNonce,
 };
@@ -102,11 +103,6 @@ fn a_header_carries_a_token_that_is_bound_to_a_key(rt: HostRuntime) -> Result<()
 /// Stops where other credentials are found.
 fn same(rt: &impl Abort, found: Credentials, wanted: Credentials) {
     assert_eq!(rt; found, wanted);
-}
-
-/// Stops where something doesn't hold.
-fn holds(rt: &impl Abort, it: bool) {
-    assert!(rt; it);
 }
 
 #[test]

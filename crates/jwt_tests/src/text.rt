@@ -1,6 +1,7 @@
 //! Octets in and out, base64url and object texts.
 ghost use Rattle.std.specs.Prelude.{◌≡◌, ◌<◌, IfOk};
 
+use crate::asserted::holds;
 use jwt_support::examples::TOKEN_A;
 use jwt_support::streams::{Drip, Endless, Narrow};
 use jwt_support::texts::nested;
@@ -74,8 +75,8 @@ fn put_fails(sink: &mut Writer<Faltering>) -> bool {
 fn an_interrupted_call_is_a_failure_and_not_tried_again(rt: HostRuntime) {
     let mut source = Reader::new(Faltering { works: false });
     let mut sink = Writer::new(Faltering { works: false });
-    assert!(rt; pull_fails(&mut source) && pull_fails(&mut source));
-    assert!(rt; put_fails(&mut sink) && put_fails(&mut sink));
+    holds(&rt, pull_fails(&mut source) && pull_fails(&mut source));
+    holds(&rt, put_fails(&mut sink) && put_fails(&mut sink));
 }
 
 /// A limit, what an intake of it answers of six octets that are dripped, how many are unread then, and how many pulls there were.
@@ -130,7 +131,7 @@ fn holds_what_came_before_a_failure(rt: HostRuntime) {
     for pulls in 0..180 {
         assert!(rt; holds_before_failure(rt.alloc(), pulls), "after {pulls}");
     }
-    assert!(rt; holds_all(rt.alloc()));
+    holds(&rt, holds_all(rt.alloc()));
 }
 
 /// How many octets are held of a source that never ends, and how many pulls there were, where it is too long.
@@ -146,7 +147,10 @@ fn endless(alloc: Global) -> Option<(usize, usize)> {
 /// A source that never ends is left one octet past the limit.
 #[test]
 fn stops_an_endless_source_after_few_pulls(rt: HostRuntime) {
-    assert!(rt; matches!(endless(rt.alloc()), Some((1_048_577, pulls)) if pulls < 20));
+    holds(
+        &rt,
+        matches!(endless(rt.alloc()), Some((1_048_577, pulls)) if pulls < 20),
+    );
 }
 
 /// Whether the token is fed up to one octet past its limit, and nothing then.
@@ -162,7 +166,7 @@ fn is_fed_to_the_limit(alloc: Global) -> bool {
 /// Fed piece by piece, no more than one octet past the limit is taken.
 #[test]
 fn feeds_up_to_one_octet_past_the_limit(rt: HostRuntime) {
-    assert!(rt; is_fed_to_the_limit(rt.alloc()));
+    holds(&rt, is_fed_to_the_limit(rt.alloc()));
 }
 
 /// A token of 84 octets.
@@ -278,7 +282,7 @@ fn a_refused_growth_loses_no_octets(rt: HostRuntime) -> Result<(), Fail> {
     for (place, octet) in all.iter_mut().enumerate() {
         *octet = (place % 251) as u8;
     }
-    assert!(rt; feeds_again(rt.alloc(), &all));
+    holds(&rt, feeds_again(rt.alloc(), &all));
     for row in &READS {
         let limit = row.0;
         assert!(rt; reads_on(rt.alloc(), &all, row), "with {limit}");
@@ -429,7 +433,7 @@ fn is_copied(alloc: Global, all: ObjectRef<'_>) -> bool {
 fn an_object_in_an_object_is_copied(rt: HostRuntime) -> Result<(), Fail> {
     let all = object(rt.alloc(), MEMBERS)?;
     let copied = is_copied(rt.alloc(), all.lend());
-    assert!(rt; copied);
+    holds(&rt, copied);
     Ok(())
 }
 
@@ -504,7 +508,7 @@ const WRITTEN: &[u8] = br#"{"aud":["x","y"],"b":true,"exp":5,"sub":"a"}"#;
 #[test]
 fn an_object_is_written_by_its_names(rt: HostRuntime) -> Result<(), Fail> {
     let text = written_once(rt.alloc())?;
-    assert!(rt; text.as_slice() == WRITTEN);
+    holds(&rt, text.as_slice() == WRITTEN);
     Ok(())
 }
 
@@ -578,10 +582,16 @@ fn writes_again(alloc: Global) -> bool {
 #[test]
 fn a_refused_growth_changes_no_later_answer(rt: HostRuntime) {
     let alloc = rt.alloc();
-    assert!(rt; reads_again(alloc));
-    assert!(rt; fault_again(alloc, br#"{"a":1,"a":1}"#) == TWICE);
-    assert!(rt; fault_again(alloc, br#"["a"]"#) == Some(TextFault::NotObject));
-    assert!(rt; fault_again(alloc, br#"{"a":"#) == Some(TextFault::Json));
-    assert!(rt; quotes_again(alloc));
-    assert!(rt; writes_again(alloc));
+    holds(&rt, reads_again(alloc));
+    holds(&rt, fault_again(alloc, br#"{"a":1,"a":1}"#) == TWICE);
+    holds(
+        &rt,
+        fault_again(alloc, br#"["a"]"#) == Some(TextFault::NotObject),
+    );
+    holds(
+        &rt,
+        fault_again(alloc, br#"{"a":"#) == Some(TextFault::Json),
+    );
+    holds(&rt, quotes_again(alloc));
+    holds(&rt, writes_again(alloc));
 }

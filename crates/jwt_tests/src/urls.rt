@@ -1,12 +1,8 @@
+use crate::asserted::holds;
 use jwt_urls::{Asked, Metadata, Next, Unwritten, Url, next_of, redirected, url_of};
 use std::alloc::Global;
 use std::process::Abort;
 use std::test::Fail;
-
-/// Stops where something doesn't hold.
-fn holds(rt: &impl Abort, it: bool) {
-    assert!(rt; it);
-}
 
 /// A URL, whether it is one of `https`, its host, its port, and its path and query, with a bar between two.
 const URLS: &str = "https://a.example/keys|true|a.example|443|/keys

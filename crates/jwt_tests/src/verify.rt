@@ -1,4 +1,5 @@
 //! `judge` and `validate`.
+use crate::asserted::holds;
 use jwt_keys::KeySet;
 use jwt_mac::{Alg, Answer, CountDown, KeyView, Message, Verifier};
 use jwt_policy::Policy;
@@ -83,7 +84,7 @@ fn a_refused_growth_changes_no_report(rt: HostRuntime) -> Result<(), Fail> {
     for case in &GROWING {
         refused = two_runs(rt.alloc(), case).saturating_add(refused);
     }
-    assert!(rt; refused <= 1);
+    holds(&rt, refused <= 1);
     Ok(())
 }
 
@@ -339,7 +340,7 @@ fn as_many_pairs_as_there_can_be(rt: HostRuntime) -> Result<(), Fail> {
             said.starts_with(begins) && said.contains(budget),
             "{begins}"
         );
-        assert!(rt; !said.ends_with("uncounted"));
+        holds(&rt, !said.ends_with("uncounted"));
     }
     Ok(())
 }
