@@ -36,13 +36,10 @@ fn policy_of(alloc: Global, document: &str) -> Result<Policy, Fail> {
 /// A fault with the member that it names.
 fn policy_fault(alloc: Global, fault: &PolicyFault) -> Result<String, Fail> {
     let text = match fault {
-        PolicyFault::OutOfMemory => String::from_str(alloc, "OutOfMemory")?,
-        PolicyFault::Json => String::from_str(alloc, "Json")?,
-        PolicyFault::NameTwice => String::from_str(alloc, "NameTwice")?,
-        PolicyFault::Member(name) => format!(in alloc; "Member {}", name.text())?,
-        PolicyFault::Range(name) => format!(in alloc; "Range {}", name.text())?,
-        PolicyFault::NoAlgorithm => String::from_str(alloc, "NoAlgorithm")?,
-        PolicyFault::TooLong => String::from_str(alloc, "TooLong")?,
+        PolicyFault::Member(name) | PolicyFault::Range(name) => {
+            format!(in alloc; "{} {}", fault.name(), name.text())?
+        }
+        _ => String::from_str(alloc, fault.name())?,
     };
     Ok(text)
 }
@@ -281,17 +278,11 @@ fn a_key_is_eligible_by_kind_members_and_kid(rt: HostRuntime) -> Result<(), Fail
 /// A fault with the claim that it names.
 fn claim_fault(alloc: Global, fault: &ClaimFault<'_>) -> Result<String, Fail> {
     let text = match fault {
-        ClaimFault::OutOfMemory => String::from_str(alloc, "OutOfMemory")?,
-        ClaimFault::ClaimsShape => String::from_str(alloc, "ClaimsShape")?,
-        ClaimFault::ClaimKind(claim) => format!(in alloc; "ClaimKind {}", claim.name())?,
-        ClaimFault::ClaimDate(claim) => format!(in alloc; "ClaimDate {}", claim.name())?,
-        ClaimFault::ClaimMissing(name) => format!(in alloc; "ClaimMissing {}", name.text())?,
-        ClaimFault::Issuer => String::from_str(alloc, "Issuer")?,
-        ClaimFault::Audience => String::from_str(alloc, "Audience")?,
-        ClaimFault::Expired => String::from_str(alloc, "Expired")?,
-        ClaimFault::NotYet => String::from_str(alloc, "NotYet")?,
-        ClaimFault::IssuedLater => String::from_str(alloc, "IssuedLater")?,
-        ClaimFault::TooOld => String::from_str(alloc, "TooOld")?,
+        ClaimFault::ClaimKind(claim) | ClaimFault::ClaimDate(claim) => {
+            format!(in alloc; "{} {}", fault.name(), claim.name())?
+        }
+        ClaimFault::ClaimMissing(name) => format!(in alloc; "{} {}", fault.name(), name.text())?,
+        _ => String::from_str(alloc, fault.name())?,
     };
     Ok(text)
 }
