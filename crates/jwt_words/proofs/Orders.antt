@@ -6,7 +6,8 @@ use Rattle.clap.specs.declared.error.ErrorKind.{ErrorKind}
 use Rattle.clap.proofs.OnLiterals.{clap_on_literals}
 use Rattle.jwt_words.specs.Seen.{seconds_of}
 use Rattle.jwt_words.specs.declared.moment.Moment.{Moment}
-use Rattle.jwt_words.specs.Words.{clap_command, command_in, command_under, jwt_app}
+use Rattle.jwt_words.specs.Options.{jwt_app}
+use Rattle.jwt_words.specs.Words.{clap_command, command_in, command_under}
 
 -- the command is one of which `clap` says exactly what it takes
 pub jwt_is_simple : (has_clock : Bool) → is_simple (jwt_app has_clock) ≡ true

@@ -2,7 +2,9 @@
 
 -- moments, in whole seconds since 1970-01-01T00:00:00Z
 pub mod Moments
--- the words of the command `jwt`, over `clap`'s own definitions of what a command takes
+-- the options of the command `jwt`, and the command line that they make, over `clap`'s own definitions
+pub mod Options
+-- what the words of the command `jwt` ask for
 pub mod Words
 -- what each command reads, and how its answer is printed
 pub mod Reading
@@ -12,5 +14,7 @@ pub mod InHand
 pub mod Seen
 -- ---- What contracts of private functions alone cite, which nobody has to believe
 
+-- the rows of the table of options as contracts see them
+pub mod Rows
 -- the commands of some examples of words
 pub mod Examples

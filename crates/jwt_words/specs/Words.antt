@@ -1,9 +1,9 @@
--- The words of the command `jwt`, over `clap`'s own definitions of what a command takes.
+-- What the words of the command `jwt` ask for.
 use Rattle.std.specs.Prelude.{◌≡◌, ◌≤◌, ℕ, Bool, ◌||◌, true, false, not, List, [], ◌∷◌, Option, Some, None, is_some, if◌then◌else◌, codes, option_and_then, option_map}
 use Rattle.std.specs.Option.{option_map_or}
 use Rattle.std.specs.Str.{bytes_eq}
 use Rattle.std.specs.Str.Parse.{digits_value, without_leading_plus}
-use Rattle.clap.specs.Words.{App, Kinds, Row, Rule, Text, fault_of, first_of, new_app, new_rule, one_of, subcommand_of, with_rule, with_subcommand}
+use Rattle.clap.specs.Words.{Kinds, Row, Text, fault_of, first_of, one_of, subcommand_of}
 use Rattle.jwt_mac.specs.Algorithm.{alg_named, is_hmac_alg}
 use Rattle.jwt_mac.specs.declared.algorithm.Alg.{Alg}
 use Rattle.jwt_text.specs.declared.limits.TheConstants.{LONGEST_TOKEN}
@@ -11,181 +11,10 @@ use Rattle.jwt_jws.specs.declared.fault.Form.{Form}
 use Rattle.jwt_jws.specs.declared.fault.Form.TheVariants.{Compact, Flattened, General}
 use Rattle.clap.specs.Lexer.{name_and_value}
 use Rattle.clap.specs.ValueTests.{accepts}
-use Rattle.clap.specs.declared.builder.action.ArgAction.TheVariants.{SetTrue}
 use Rattle.clap.specs.declared.builder.value_parser.ValueParser.{ValueParser}
-use Rattle.clap.specs.declared.builder.value_parser.ValueParser.TheVariants as vp
-use Rattle.jwt_words.specs.Moments.{last_moment}
+use Rattle.jwt_words.specs.Options.{jwt_app, limit_range, now_range}
 use Rattle.jwt_words.specs.declared.printing.Printing.{Printing}
 use Rattle.jwt_words.specs.declared.printing.Printing.TheVariants.{Json, Lines}
-
--- ---- the options
-
--- an option `--name VALUE`
-abbrev pub option : Text → Rule
-option name = record (new_rule name) { long = Some name; value_names = 1 }
-
-abbrev pub limit_range : ValueParser
-limit_range = vp.Unsigned 1 LONGEST_TOKEN
-
-abbrev pub now_range : ValueParser
-now_range = vp.Unsigned 0 last_moment
-
--- the key of `mac`: its text, or the file of it
-abbrev pub key_rule : Rule
-key_rule = option (codes "k")
-
-abbrev pub key_file_rule : Rule
-key_file_rule = option (codes "key-file")
-
-abbrev pub limit_rule : Rule
-limit_rule = record (option (codes "limit")) { parser = Some limit_range; defaults = codes "8192" ∷ [] }
-
--- `--now` may be left out where there is a clock
-abbrev pub now_rule : Bool → Rule
-now_rule has_clock = record (option (codes "now")) { parser = Some now_range; required = not has_clock }
-
--- a flag `--public-keys`
-abbrev pub public_keys_rule : Rule
-public_keys_rule = record (new_rule (codes "public-keys")) { long = Some (codes "public-keys"); action = Some SetTrue }
-
--- a flag `--lines`
-abbrev pub lines_rule : Rule
-lines_rule = record (new_rule (codes "lines")) { long = Some (codes "lines"); action = Some SetTrue }
-
--- a flag `--json`
-abbrev pub json_rule : Rule
-json_rule = record (new_rule (codes "json")) { long = Some (codes "json"); action = Some SetTrue }
-
--- the file of a document, in the place of standard input
-abbrev pub policy_rule : Rule
-policy_rule = option (codes "policy")
-
-abbrev pub keys_rule : Rule
-keys_rule = option (codes "keys")
-
-abbrev pub token_rule : Rule
-token_rule = option (codes "token")
-
--- the file of an access rule
-abbrev pub access_rule : Rule
-access_rule = option (codes "access")
-
--- what a claim has to be
-abbrev pub expect_rule : Rule
-expect_rule = option (codes "expect")
-
-abbrev pub alg_rule : Rule
-alg_rule = record (option (codes "alg")) { required = true }
-
-abbrev pub typ_rule : Rule
-typ_rule = option (codes "typ")
-
-abbrev pub form_rule : Rule
-form_rule = record (option (codes "form")) { defaults = codes "compact" ∷ [] }
-
--- a flag `--name`
-abbrev pub flag : Text → Rule
-flag name = record (new_rule name) { long = Some name; action = Some SetTrue }
-
--- the file of public keys, in the place of standard input, in PEM, or in DER
-abbrev pub file_rule : Rule
-file_rule = option (codes "file")
-
-abbrev pub der_rule : Rule
-der_rule = flag (codes "der")
-
--- the `kid` of each key: a name, or its thumbprint
-abbrev pub kid_rule : Rule
-kid_rule = option (codes "kid")
-
-abbrev pub kid_thumbprint_rule : Rule
-kid_thumbprint_rule = flag (codes "kid-thumbprint")
-
--- the `alg` of each key
-abbrev pub public_alg_rule : Rule
-public_alg_rule = option (codes "alg")
-
--- the JWK alone, without a key set round it
-abbrev pub bare_rule : Rule
-bare_rule = flag (codes "bare")
-
--- the algorithm of a new secret
-abbrev pub secret_rule : Rule
-secret_rule = option (codes "new")
-
--- the file of a secret
-abbrev pub secret_file_rule : Rule
-secret_file_rule = option (codes "secret")
-
--- `--pretty` of `show`
-abbrev pub pretty_rule : Rule
-pretty_rule = flag (codes "pretty")
-
--- the policy that `policy` explains, which has to be named
-abbrev pub named_policy_rule : Rule
-named_policy_rule = record policy_rule { required = true }
-
--- ---- the command
-
-abbrev pub mac_app : App
-mac_app = with_rule (with_rule (with_rule (new_app (codes "mac")) key_rule) key_file_rule) limit_rule
-
-abbrev pub keys_app : App
-keys_app = with_rule (new_app (codes "keys")) json_rule
-
--- `show` with its limit and `--json`, and with the options for a person too
-abbrev pub show_plain : App
-show_plain = with_rule (with_rule (new_app (codes "show")) limit_rule) json_rule
-
-abbrev pub show_app : App
-show_app = with_rule (with_rule show_plain pretty_rule) (now_rule true)
-
-abbrev pub policy_app : App
-policy_app = with_rule (with_rule (with_rule (new_app (codes "policy")) named_policy_rule) keys_rule) json_rule
-
--- `verify` on standard input alone, and with files
-abbrev pub verify_on_input : Bool → App
-verify_on_input has_clock = with_rule (with_rule (new_app (codes "verify")) (now_rule has_clock)) public_keys_rule
-
-abbrev pub verify_on_files : Bool → App
-verify_on_files has_clock = with_rule (with_rule (with_rule (verify_on_input has_clock) policy_rule) keys_rule) token_rule
-
--- with an access rule too
-abbrev pub verify_with_access : Bool → App
-verify_with_access has_clock = with_rule (verify_on_files has_clock) access_rule
-
--- with what a claim has to be too
-abbrev pub verify_with_expect : Bool → App
-verify_with_expect has_clock = with_rule (verify_with_access has_clock) expect_rule
-
-abbrev pub verify_app : Bool → App
-verify_app has_clock = with_rule (with_rule (verify_with_expect has_clock) lines_rule) json_rule
-
-abbrev pub issue_app : App
-issue_app = with_rule (with_rule (with_rule (with_rule (new_app (codes "issue")) alg_rule) typ_rule) form_rule) keys_rule
-
--- `jwk` with the options of its input, of the `kid`, of the other members, and all
-abbrev pub jwk_on_input : App
-jwk_on_input = with_rule (with_rule (new_app (codes "jwk")) file_rule) der_rule
-
-abbrev pub jwk_with_kid : App
-jwk_with_kid = with_rule (with_rule jwk_on_input kid_rule) kid_thumbprint_rule
-
-abbrev pub jwk_of_keys : App
-jwk_of_keys = with_rule (with_rule jwk_with_kid public_alg_rule) bare_rule
-
-abbrev pub jwk_app : App
-jwk_app = with_rule (with_rule (with_rule jwk_of_keys secret_rule) secret_file_rule) json_rule
-
-abbrev pub top_app : App
-top_app = record (new_app (codes "jwt")) { top = record (new_app (codes "jwt")).top { subcommand_required = true } }
-
--- the command line with the subcommands that take a token, and with all
-abbrev pub token_apps : Bool → App
-token_apps has_clock = with_subcommand (with_subcommand (with_subcommand (with_subcommand top_app mac_app.top) keys_app.top) show_app.top) (verify_app has_clock).top
-
-abbrev pub jwt_app : Bool → App
-jwt_app has_clock = with_subcommand (with_subcommand (with_subcommand (token_apps has_clock) issue_app.top) jwk_app.top) policy_app.top
 
 -- ---- what the words ask for
 

@@ -2,7 +2,8 @@
 ghost use Rattle.std.specs.Prelude.{◌≡◌, ◌≤◌, IfSome, codes, option_and_then, option_map};
 ghost use Rattle.clap.specs.Words.{found_of, one_of, rows_of, subcommand_rows_of};
 ghost use Rattle.clap.specs.declared.builder.ValueParser.TheVariants.{Unsigned};
-ghost use Rattle.jwt_words.specs.Words.{HasRange, IsLimit, alg_in, command_in, expected_in, files_in, form_in, form_named, is_named, is_set, issue_order, jwk_or_secret, keyed, keys_file_in, lines_order, mac_order, moment_in, named_moment, now_range, number_in, printing_in, show_order, verify_order};
+ghost use Rattle.jwt_words.specs.Options.{now_range};
+ghost use Rattle.jwt_words.specs.Words.{HasRange, IsLimit, alg_in, command_in, expected_in, files_in, form_in, form_named, is_named, is_set, issue_order, jwk_or_secret, keyed, keys_file_in, lines_order, mac_order, moment_in, named_moment, number_in, printing_in, show_order, verify_order};
 ghost use Rattle.jwt_words.specs.Seen.{command_view, expectation_view, files_view, lines_view, seconds_of};
 
 use crate::command::{Command, Files, LinesOrder};

@@ -1,18 +1,16 @@
 //! The words of `jwk`.
-ghost use Rattle.std.specs.Prelude.{◌≡◌, IfOk, IfSome, codes, false, option_map, true};
-ghost use Rattle.clap.specs.Words.{app_of, first_of, found_of, rows_of};
-ghost use Rattle.clap.specs.declared.builder.command.Command.TheViews.{out-Command as fields_of};
+ghost use Rattle.std.specs.Prelude.{◌≡◌, IfSome, codes, option_map, true};
+ghost use Rattle.clap.specs.Words.{first_of, found_of, rows_of};
 ghost use Rattle.jwt_mac.specs.Algorithm.{is_hmac_alg};
 ghost use Rattle.jwt_words.specs.Seen.{files_view, jwk_view, kid_view, secret_view};
-ghost use Rattle.jwt_words.specs.Words.{asks_of_public_keys, is_public_alg, jwk_app, jwk_of_keys, jwk_on_input, jwk_order, jwk_with_kid, kept_secret_order, key_file_in, kid_chosen, kid_in, public_alg_chosen, secret_alg, secret_alg_in, secret_for, secret_order};
+ghost use Rattle.jwt_words.specs.Words.{asks_of_public_keys, is_public_alg, jwk_order, kept_secret_order, key_file_in, kid_chosen, kid_in, public_alg_chosen, secret_alg, secret_alg_in, secret_for, secret_order};
 
-use crate::app::{flag, json_option, option};
 use crate::chosen::{chosen_printing, is_named, is_set};
 use crate::command::Files;
 use crate::nearest::nearest;
 use crate::printing::Printing;
 use crate::wrong::unknown_value;
-use clap::{ArgMatches, Command};
+use clap::ArgMatches;
 use jwt_mac::Alg;
 use std::alloc::{AllocError, Global};
 
@@ -63,58 +61,6 @@ pub struct SecretOrder<'a> {
 
     /// The file of the secret, where one is named.
     pub files: Files<'a>,
-}
-
-/// The options of the input.
-fn jwk_on_input<'a>(alloc: Global) -> Result<Command<'a>, AllocError>
-    ensures shape { IfOk result (λ c. app_of c ≡ jwk_on_input) }
-    ensures local { IfOk result (λ c. (fields_of c).has_globals ≡ false) }
-{
-    let about =
-        "Prints the key set of public keys in PEM, which standard input holds, or of a new secret";
-    let file = "The file of the keys, in the place of standard input";
-    Command::new(alloc, "jwk")
-        .about(about)
-        .arg(option(alloc, "file", "FILE", file))?
-        .arg(flag(alloc, "der", "Reads one key in DER, in the place of PEM"))
-}
-
-/// With those of the `kid`.
-fn jwk_with_kid<'a>(alloc: Global) -> Result<Command<'a>, AllocError>
-    ensures shape { IfOk result (λ c. app_of c ≡ jwk_with_kid) }
-    ensures local { IfOk result (λ c. (fields_of c).has_globals ≡ false) }
-{
-    let print = "Gives each key its thumbprint by SHA-256 as kid";
-    jwk_on_input(alloc)?
-        .arg(option(alloc, "kid", "NAME", "The kid of each key"))?
-        .arg(flag(alloc, "kid-thumbprint", print))
-}
-
-/// With those of the other members.
-fn jwk_of_keys<'a>(alloc: Global) -> Result<Command<'a>, AllocError>
-    ensures shape { IfOk result (λ c. app_of c ≡ jwk_of_keys) }
-    ensures local { IfOk result (λ c. (fields_of c).has_globals ≡ false) }
-{
-    let alg =
-        "The alg of each key: RS256, RS384, RS512, PS256, PS384, PS512, ES256, ES384, ES512 or EdDSA";
-    let bare = "Prints the JWK alone, of one key";
-    jwk_with_kid(alloc)?
-        .arg(option(alloc, "alg", "A", alg))?
-        .arg(flag(alloc, "bare", bare))
-}
-
-/// The command `jwk`.
-pub(crate) fn jwk_command<'a>(alloc: Global) -> Result<Command<'a>, AllocError>
-    ensures shape { IfOk result (λ c. app_of c ≡ jwk_app) }
-    ensures local { IfOk result (λ c. (fields_of c).has_globals ≡ false) }
-{
-    let new = "Makes a new secret, for HS256, HS384 or HS512; reads no key";
-    let secret =
-        "The file of a secret, its octets as they are, for the HS256, HS384 or HS512 of --alg";
-    jwk_of_keys(alloc)?
-        .arg(option(alloc, "new", "A", new))?
-        .arg(option(alloc, "secret", "FILE", secret))?
-        .arg(json_option(alloc))
 }
 
 /// The `kid` by its name, or as the thumbprint: one of the two, or none.

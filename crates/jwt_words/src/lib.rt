@@ -12,6 +12,7 @@ mod in_hand;
 mod jwk;
 mod moment;
 mod nearest;
+mod options;
 mod policy;
 mod pretty;
 mod printing;

@@ -1,17 +1,14 @@
 //! The words of `policy`.
-ghost use Rattle.std.specs.Prelude.{◌≡◌, IfOk, codes, false, option_map};
-ghost use Rattle.clap.specs.Words.{app_of, first_of, found_of, rows_of, rule_of};
-ghost use Rattle.clap.specs.declared.builder.command.Command.TheViews.{out-Command as fields_of};
+ghost use Rattle.std.specs.Prelude.{◌≡◌, codes, option_map};
+ghost use Rattle.clap.specs.Words.{first_of, found_of, rows_of};
 ghost use Rattle.jwt_words.specs.Seen.{files_view, policy_view};
-ghost use Rattle.jwt_words.specs.Words.{documents_in, named_policy_rule, policy_app, policy_order};
+ghost use Rattle.jwt_words.specs.Words.{documents_in, policy_order};
 
-use crate::app::{json_option, option};
 use crate::chosen::chosen_printing;
 use crate::command::Files;
 use crate::jwk::value;
 use crate::printing::Printing;
-use clap::{Arg, ArgMatches, Command};
-use std::alloc::{AllocError, Global};
+use clap::ArgMatches;
 
 /// What `policy` asks for: what a policy means, with the keys of a key set or without.
 #[derive(Clone, Copy)]
@@ -21,29 +18,6 @@ pub struct PolicyOrder<'a> {
 
     /// The file of the policy, and that of the key set, where one is named.
     pub files: Files<'a>,
-}
-
-/// `--policy`, which has to be there.
-fn policy_option<'a>(alloc: Global) -> Arg<'a>
-    ensures shape { rule_of result ≡ named_policy_rule }
-    ensures local { result.global ≡ false }
-{
-    option(alloc, "policy", "FILE", "The file of the policy").required(true)
-}
-
-/// The command `policy`.
-pub(crate) fn policy_command<'a>(alloc: Global) -> Result<Command<'a>, AllocError>
-    ensures shape { IfOk result (λ c. app_of c ≡ policy_app) }
-    ensures local { IfOk result (λ c. (fields_of c).has_globals ≡ false) }
-{
-    let keys = "The file of the key set that goes with it";
-    Command::new(alloc, "policy")
-        .about(
-            "Says what a policy means, alone or with its keys, and what ought to be written otherwise",
-        )
-        .arg(policy_option(alloc))?
-        .arg(option(alloc, "keys", "FILE", keys))?
-        .arg(json_option(alloc))
 }
 
 /// The files of a policy and of a key set.

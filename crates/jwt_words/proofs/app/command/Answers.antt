@@ -1,7 +1,7 @@
 use Rattle.std.proofs.Common.{◌≡◌, ◌∙◌, ap₂}
 use Rattle.std.proofs.lemmas.Result.{IfOk-weaker}
 use Rattle.clap.specs.Words.{App, app_of, with_subcommand}
-use Rattle.jwt_words.specs.Words.{jwt_app}
+use Rattle.jwt_words.specs.Options.{jwt_app}
 use Rattle.jwt_words.proofs.app.command.Goals as goal
 
 -- a command with one more subcommand

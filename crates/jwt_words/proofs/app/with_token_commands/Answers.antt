@@ -1,7 +1,7 @@
 use Rattle.std.proofs.Common.{◌≡◌, ◌∙◌, ap₂}
 use Rattle.std.proofs.lemmas.Result.{IfOk-weaker}
 use Rattle.clap.specs.Words.{App, app_of, with_subcommand}
-use Rattle.jwt_words.specs.Words.{token_apps}
+use Rattle.jwt_words.specs.Options.{token_apps}
 use Rattle.jwt_words.proofs.app.with_token_commands.Goals as goal
 
 -- a command with one more subcommand

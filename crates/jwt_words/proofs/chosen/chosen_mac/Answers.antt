@@ -2,7 +2,8 @@ use Rattle.std.proofs.Common.{◌∙◌, ap, ap₂, Option, ℕ}
 use Rattle.std.specs.Prelude.{codes, option_and_then, option_map}
 use Rattle.clap.specs.Words.{Text, found_of, one_of, rows_of}
 use Rattle.clap.proofs.WalkLemmas.{first_value-rows}
-use Rattle.jwt_words.specs.Words.{Command, keyed, limit_range, number_in}
+use Rattle.jwt_words.specs.Options.{limit_range}
+use Rattle.jwt_words.specs.Words.{Command, keyed, number_in}
 use Rattle.jwt_words.specs.Seen.{command_view}
 use Rattle.jwt_words.proofs.chosen.chosen_mac.Goals as goal
 

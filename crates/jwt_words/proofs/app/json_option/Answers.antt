@@ -1,7 +1,0 @@
-use Rattle.jwt_words.proofs.app.json_option.Goals as goal
-
-pub returns-clause-shape : goal.returns-clause-shape
-returns-clause-shape c = c.flag.ensures.shape
-
-pub returns-clause-local : goal.returns-clause-local
-returns-clause-local c = c.flag.ensures.local
