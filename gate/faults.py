@@ -92,7 +92,7 @@ def rattle(page):
 DRAWN = {
     "bindings/python/src/fowharimu/_meanings.py": python,
     "bindings/node/meanings.js": node,
-    "crates/jwt_reasons/src/sentences.rt": rattle,
+    "crates/jwt_output/src/reasons/sentences.rt": rattle,
 }
 
 

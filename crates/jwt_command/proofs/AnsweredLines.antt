@@ -3,7 +3,7 @@ use Rattle.std.proofs.Common.{◌≡◌, ◌≤◌, ◌<◌, ◌-◌, ◌⊎◌,
 use Rattle.std.proofs.lemmas.Bool.Decides.{nat_tests}
 use Rattle.std.specs.Io.KnownBytes.{Appends, append_known, prepend_known}
 use Rattle.jwt_command.specs.Lines.{AnswersLines, AreMoments, CutReady, Ended, GivesLines, IsMoment, LineAnswered, SendsReady, StopsBy, LineEnds, MayHaveSent, answers, lines, with_held}
-use Rattle.jwt_printing.specs.Printed.{Answer, Prints, out_of_memory}
+use Rattle.jwt_output.specs.Printed.{Answer, Prints, out_of_memory}
 use Rattle.jwt_command.specs.TakenLines.{after_line, first_line}
 use Rattle.jwt_command.specs.declared.input.line.LineFault.{LineFault}
 use Rattle.jwt_command.specs.declared.input.line.LineFault.TheVariants.{OutOfMemory, Read, TooLong}

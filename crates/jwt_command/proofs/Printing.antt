@@ -10,8 +10,8 @@ use Rattle.jwt_words.specs.Words.{Command, Issue, Jwk, Keys, LinesOrder, Mac, Ma
 use Rattle.jwt_words.specs.declared.command.Command.{Command as CodeCommand}
 use Rattle.jwt_words.specs.declared.words.WordsFault.{WordsFault}
 use Rattle.jwt_words.specs.declared.words.WordsFault.TheVariants.{OutOfMemory as NoMemory, Wrong}
-use Rattle.jwt_printing.specs.Printed.{Answer, out_of_memory}
-use Rattle.jwt_printing.specs.Refused.{printed_file_fault}
+use Rattle.jwt_output.specs.Printed.{Answer, out_of_memory}
+use Rattle.jwt_output.specs.Refused.{printed_file_fault}
 use Rattle.jwt_command.specs.Answered.{IsAnswer}
 use Rattle.jwt_command.specs.RunLines.{Outcome, Printed}
 use Rattle.jwt_command.specs.Runs.{Drawn, IsReading, IsRun, Runs, RunsInHand, RunsNamed, fails_otherwise, may_fail_otherwise, reads_nothing}

@@ -8,9 +8,9 @@ use Rattle.jwt_access.specs.declared.access_fault.AccessFault.{AccessFault}
 use Rattle.jwt_policy.specs.Settings.{Settings}
 use Rattle.jwt_policy.specs.declared.policy_fault.PolicyFault.{PolicyFault}
 use Rattle.jwt_command.specs.Lines.{GivesLines, with_held}
-use Rattle.jwt_printing.specs.Printed.{Answer, out_of_memory}
+use Rattle.jwt_output.specs.Printed.{Answer, out_of_memory}
 use Rattle.jwt_command.specs.RunLines.{LinesByKeys, LinesByPolicy, LinesByRule, LinesInHand, Outcome, Printed}
-use Rattle.jwt_verdicts.specs.Printer.{Printer}
+use Rattle.jwt_output.specs.verdicts.Printer.{Printer}
 use Rattle.jwt_command.specs.Verify.{terms_of_keys}
 
 -- what holds for each x holds where x is known

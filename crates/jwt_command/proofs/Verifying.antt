@@ -1,5 +1,5 @@
 -- What `verify` takes, and its answer where a line is too long.
-use Rattle.std.proofs.Common.{◌≡◌, ◌≢◌, ◌≤◌, ◌<◌, ◌⊎◌, inl, inr, ℕ, ◌+◌, Bool, true, false, List, [], length, drop, Option, None, Some, Result, Ok, Err, IfOk, refl, sym, ap, subst, ◌∙◌, drop-drop, arith, nat_lt, true≢false, IfSome}
+use Rattle.std.proofs.Common.{◌≡◌, ◌≤◌, ◌<◌, ◌⊎◌, inl, inr, ℕ, ◌+◌, Bool, true, false, List, [], length, drop, Option, None, Some, Result, Ok, Err, IfOk, refl, sym, ap, subst, ◌∙◌, drop-drop, arith, nat_lt, IfSome}
 use Rattle.std.proofs.lemmas.Bool.Decides.{nat_tests}
 use Rattle.std.specs.Option.{option_map_or}
 use Rattle.jwt_text.specs.declared.limits.TheConstants.{LONGEST_KEY_SET, LONGEST_POLICY}
@@ -15,37 +15,27 @@ use Rattle.jwt_jws.specs.Views.{token as token_view}
 use Rattle.jwt_verify.specs.Accepted.{TellsTokens}
 use Rattle.jwt_verify.specs.declared.report.Fault.{Fault}
 use Rattle.jwt_verify.specs.Verdict.{Terms, table, token_of, token_or_none, verdict_of}
-use Rattle.jwt_verify.specs.Reports.{FoundMemory, Failed, IsReadAs, IsReport}
+use Rattle.jwt_verify.specs.Reports.{FoundMemory, IsReadAs, IsReport}
 use Rattle.jwt_verify.specs.Steps.{TellsReports}
 use Rattle.jwt_verify.specs.declared.report.Report.{Report}
-use Rattle.jwt_verify.specs.declared.report.Try.{Try}
-use Rattle.jwt_verify.specs.declared.report.SigState.{SigState}
-use Rattle.jwt_verify.specs.declared.report.InputFault.TheVariants.{Read, TooLong}
-use Rattle.jwt_verify.specs.declared.report.Fault.TheVariants.{OutOfMemory, Text, Form, WorkExceeded, CallsExceeded, VerifierMemory, Signature, Claim}
 use Rattle.jwt_verify.specs.declared.report.Verdict.{Verdict}
-use Rattle.jwt_verify.specs.declared.report.Verdict.TheVariants.{Accepted, Refused}
 use Rattle.jwt_access.specs.Rules.{Rule}
 use Rattle.jwt_access.specs.declared.access_fault.AccessFault.{AccessFault}
 use Rattle.jwt_policy.specs.Settings.{Settings}
 use Rattle.jwt_words.specs.InHand.{Held}
 use Rattle.jwt_command.specs.Access.{under_rule}
-use Rattle.jwt_command.specs.Documents.{TakesDocument, behind, document, document_most, kept_line, last_document}
+use Rattle.jwt_command.specs.Documents.{TakesDocument, behind, document, document_most, last_document}
 use Rattle.jwt_text.specs.Intake.{TakesAtMost}
 use Rattle.jwt_command.specs.Issue.{issue_answer, issue_under}
 use Rattle.jwt_issue.specs.Options.{OptionParts}
-use Rattle.jwt_verdicts.specs.Denied.{Demands}
-use Rattle.jwt_verdicts.specs.VerdictsJson.{verdict_json, token_json, payload_of}
-use Rattle.jwt_verdicts.specs.Printer.{Printer, printer, printer_for, unless_read_failed}
+use Rattle.jwt_output.specs.verdicts.Denied.{Demands}
+use Rattle.jwt_output.specs.verdicts.VerdictsJson.{verdict_json, token_json, payload_of}
+use Rattle.jwt_output.specs.verdicts.Printer.{Printer, unless_read_failed}
 use Rattle.jwt_command.specs.Verify.{keys_answer, payload_in, under_keys, under_policy, verify_answer}
-use Rattle.jwt_printing.specs.Refused.{keys_refused}
-use Rattle.jwt_verdicts.specs.Verdicts.{moment_of, token_answer, verify_line}
-use Rattle.jwt_printing.specs.Printed.{Answer}
-use Rattle.jwt_command.specs.Keys.{list_answer, listed}
+use Rattle.jwt_output.specs.Refused.{keys_refused}
+use Rattle.jwt_output.specs.verdicts.Verdicts.{moment_of, token_answer, verify_line}
+use Rattle.jwt_output.specs.Printed.{Answer}
 use Rattle.jwt_command.specs.Stops.{behind_keys, behind_policy, keys_most, token_most, verify_most}
-use Rattle.jwt_command.specs.TakenLines.{TakesLine, first_line}
-use Rattle.jwt_command.proofs.LineLemmas.{line_taken}
-use Rattle.jwt_words.specs.declared.printing.Printing.{Printing}
-use Rattle.jwt_words.specs.declared.printing.Printing.TheVariants.{Lines}
 
 -- ---- what is taken
 
@@ -95,28 +85,6 @@ policy_read tell view r vs now h p x octets mid failed d is then =
     subst (λ k. IfOk r (λ a. view a ≡ unless_read_failed tell failed (under_policy tell vs now h k (behind h.policy x)))) (sym is ∙ ap policy_of d.octets_are)
     (subst (λ m. IfSome m (λ y. IfOk r (λ a. view a ≡ unless_read_failed tell failed (keys_answer tell vs now h p y)))) d.unread then)
 
--- a line that is within the limit is held, and nothing of one that isn't
-kept_within : (limit : ℕ) (l : List ℕ) → length l ≤ limit → kept_line limit l ≡ l
-kept_within limit l short = let is : nat_lt limit (length l) ≡ false = grind (arith, nat_tests, short) in rw is refl
-
-pub kept_long : (limit : ℕ) (l : List ℕ) → limit < length l → kept_line limit l ≡ []
-kept_long limit l long = let is : nat_lt limit (length l) ≡ true = grind (arith, nat_tests, long) in rw is refl
-
--- a line as a document
-pub line_document : (limit : ℕ) (x octets : List ℕ) (rest : Option (List ℕ)) → TakesLine limit x octets rest → TakesDocument limit None x octets rest
-line_document limit x octets rest h = record { octets_are = h.line; read = h.line ∙ sym (kept_within limit (first_line x) h.within); unread = h.unread; taken = line_taken limit x octets rest h }
-
-pub front_taken : (limit most : ℕ) (x : List ℕ) (rest : Option (List ℕ)) (failed : Bool) (v : Verdict) → limit + 1 ≤ most
-    → (v ≢ Refused (Text Read) → TakesAtMost (limit + 1) x rest) → (v ≡ Refused (Text Read) → failed ≡ true) → (failed ≡ true) ⊎ TakesAtMost most x rest
-front_taken limit most x rest true v within taken read = inl refl
-front_taken limit most x rest false v within taken read = inr (drops (taken (λ is. never (read is))))
-  where
-    never : false ≡ true → ⊥
-    never is = true≢false (sym is)
-
-    drops : TakesAtMost (limit + 1) x rest → TakesAtMost most x rest
-    drops (n, few, here) = (n, omega (arith, few, within), here)
-
 -- ---- lines that are too long
 
 pub keys_too_long : (z : List ℕ) → LONGEST_KEY_SET < length z → key_set_of z ≡ Err keys.TooLong
@@ -137,11 +105,6 @@ pub policy_line_too_long : (tell : Printer) (vs : List Meaning) (now : ℕ) (h :
 policy_line_too_long tell vs now h x failed works long =
     sym (ap (λ f. verify_answer tell vs now h f x) works ∙ ap (λ k. under_policy tell vs now h k (behind h.policy x)) (policy_too_long (document h.policy x) long))
 
-pub set_too_long : (printing : Printing) (x : List ℕ) (failed : Bool) → failed ≡ false → LONGEST_KEY_SET < length x
-    → (printer printing).keys_refused keys.TooLong ≡ list_answer printing failed x
-set_too_long printing x failed works long =
-    sym (ap (λ f. list_answer printing f x) works ∙ ap (listed printing) (keys_too_long x long))
-
 pub issue_line_too_long : (options : OptionParts) (held : Option (List ℕ)) (x : List ℕ) (failed : Bool) → failed ≡ false → LONGEST_KEY_SET < length (document held x)
     → keys_refused keys.TooLong ≡ issue_answer options held failed x
 issue_line_too_long options held x failed works long =
@@ -157,42 +120,6 @@ rule_refused tell view r q rule fault last (Some x) failed works is line =
     (subst (λ (k : Result (Option Rule) AccessFault). IfOk r (λ a. view a ≡ under_rule tell q k (last x))) (sym is) line)
 
 -- ---- the line of a verdict
-
-pub both_ok : {A E : Type 0} {P F Q : A → Type 0} (r : Result A E) → IfOk r P → IfOk r F → ((a : A) → P a → F a → Q a) → IfOk r Q
-both_ok (Ok a) p f h = h a p f
-both_ok (Err e) p f h = tt
-
-read_or : (v : Verdict) → (v ≡ Refused (Text Read)) ⊎ (v ≢ Refused (Text Read))
-read_or (Accepted i j claims) = inr (λ e. cc)
-read_or (Refused OutOfMemory) = inr (λ e. cc)
-read_or (Refused (Text Read)) = inl refl
-read_or (Refused (Text TooLong)) = inr (λ e. cc)
-read_or (Refused (Form f)) = inr (λ e. cc)
-read_or (Refused (WorkExceeded i j)) = inr (λ e. cc)
-read_or (Refused (Signature i f)) = inr (λ e. cc)
-read_or (Refused (Claim f)) = inr (λ e. cc)
-read_or (Refused VerifierMemory) = inr (λ e. cc)
-read_or (Refused (CallsExceeded i j)) = inr (λ e. cc)
-
-failed_read : (v : Verdict) (es : List Try) (sts : List SigState) → FoundMemory v → Failed v es sts → v ≡ Refused (Text Read)
-failed_read v es sts found (inl read, tries, states) = read
-failed_read v es sts found (inr memory, tries, states) = absurd (subst FoundMemory memory found)
-
--- the line of a report, where memory was there, is that of the verdict on what the source gave
-pub answered : (asked : Demands) (q : Terms) (x : List ℕ) → TellsReports → (failed : Bool) (r : Report) (octets : ℕ) → (r.verdict ≢ Refused (Text Read) → IsReport q x q.policy.run.work r)
-    → (failed ≡ true → Failed r.verdict r.tries.items r.states.items) → (r.verdict ≡ Refused (Text Read) → failed ≡ true) → octets ≡ work r.tries.items → FoundMemory r.verdict
-    → (a : Answer) → a ≡ verify_line asked (moment_of q) r.verdict (length r.tries.items) octets → a ≡ unless_read_failed (printer_for Lines asked.expected) failed (token_answer asked q x)
-answered asked q x tells failed r octets report fails read counted found a line = elim (read_or r.verdict) [
-  | inl e ↦ line ∙ ap (λ v. verify_line asked (moment_of q) v (length r.tries.items) octets) e ∙ sym (ap (λ f. unless_read_failed (printer_for Lines asked.expected) f (token_answer asked q x)) (read e))
-  | inr n ↦ (let t = tells q x q.policy.run.work r (report n) found in
-      let same : a ≡ token_answer asked q x = line ∙ ap (λ n. verify_line asked (moment_of q) r.verdict (length r.tries.items) n) counted ∙ ap (λ v. verify_line asked (moment_of q) v (length r.tries.items) (work r.tries.items)) t.0
-      ∙ ap (λ es. verify_line asked (moment_of q) (verdict_of q x q.policy.run.work) (length es) (work es)) t.1 in
-      working failed (λ is. n (failed_read r.verdict r.tries.items r.states.items found (fails is))) same)
-]
-  where
-    working : (failed : Bool) → (failed ≡ true → ⊥) → a ≡ token_answer asked q x → a ≡ unless_read_failed (printer_for Lines asked.expected) failed (token_answer asked q x)
-    working true never same = absurd (never refl)
-    working false never same = same
 
 -- the same of a report on octets in hand
 pub answered_in_hand : (asked : Demands) (q : Terms) (x : List ℕ) → TellsReports → (r : Report) (octets : ℕ) → IsReport q x q.policy.run.work r

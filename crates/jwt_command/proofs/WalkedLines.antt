@@ -5,13 +5,13 @@ use Rattle.std.proofs.lemmas.List.Folds.{list_any-append}
 use Rattle.std.proofs.lemmas.Bool.Decides.{nat_tests}
 use Rattle.std.specs.Io.KnownBytes.{Consumes, IsAtEnd, Keeps, prepend_known}
 use Rattle.jwt_command.specs.Lines.{lines, onto_first}
-use Rattle.jwt_printing.specs.Printed.{Answer}
-use Rattle.jwt_verdicts.specs.VerdictsJson.{payload_of, token_json, verdict_json}
-use Rattle.jwt_verdicts.specs.Printer.{printer_for}
-use Rattle.jwt_verdicts.specs.Verdicts.{moment_of, paid_tries, token_answer}
+use Rattle.jwt_output.specs.Printed.{Answer}
+use Rattle.jwt_output.specs.verdicts.VerdictsJson.{payload_of, token_json, verdict_json}
+use Rattle.jwt_output.specs.verdicts.Printer.{printer_for}
+use Rattle.jwt_output.specs.verdicts.Verdicts.{moment_of, paid_tries, token_answer}
 use Rattle.jwt_access.specs.Rules.{Rule}
-use Rattle.jwt_verdicts.specs.Denied.{Demands}
-use Rattle.jwt_words.specs.Words.{Expectation}
+use Rattle.jwt_output.specs.verdicts.Denied.{Demands}
+use Rattle.jwt_settings.specs.Seen.{Expectation}
 use Rattle.jwt_policy.specs.Settings.{Settings}
 use Rattle.jwt_verify.specs.Verdict.{Terms, table, token_of, token_or_none, verdict_of}
 use Rattle.jwt_verify.specs.Table.{states, work}
@@ -19,8 +19,8 @@ use Rattle.jwt_verify.specs.declared.report.InputFault.TheVariants.{TooLong}
 use Rattle.jwt_verify.specs.declared.report.Fault.TheVariants.{Text}
 use Rattle.jwt_command.specs.TakenLines.{after_line, first_line, has_line_feed}
 use Rattle.jwt_command.proofs.LineLemmas.{HasNoFeed, line_at_end, line_at_feed, one_line}
-use Rattle.jwt_words.specs.declared.printing.Printing.{Printing}
-use Rattle.jwt_words.specs.declared.printing.Printing.TheVariants.{Json, Lines}
+use Rattle.jwt_settings.specs.declared.printing.Printing.{Printing}
+use Rattle.jwt_settings.specs.declared.printing.Printing.TheVariants.{Json, Lines}
 
 -- ---- the first line
 
@@ -67,10 +67,6 @@ line_and_feed (c ∷ cs) some = go (c == 10) refl some (λ h. line_and_feed cs h
 abbrev pub Walked : ℕ → Option (List ℕ) → Option (List ℕ) → List ℕ → Bool → Type 0
 Walked limit told left held any = IfSome told (λ x. (walked : List ℕ) × Keeps (Some x) (prepend_known walked left) × HasNoFeed walked
     × (held ≡ take (limit + 1) walked) × (any ≡ false → walked ≡ []) × (any ≡ true → 0 < length walked))
-
-pub walked_none : (limit : ℕ) (told : Option (List ℕ)) (held : List ℕ) → held ≡ [] → Walked limit told told held false
-walked_none limit None held none = tt
-walked_none limit (Some x) held none = ([], refl, refl, none ∙ sym (take_all (limit + 1) [] (omega arith)), λ e. refl, λ e. absurd (cc e))
 
 pub length-take-all : (l : List ℕ) (n : ℕ) → n ≤ length l → length (take n l) ≡ n
 length-take-all l zero h = refl
@@ -121,13 +117,6 @@ walked_end limit None left rest held any w kept at_end = tt
 walked_end limit (Some x) left rest held any (walked, keeps, none, is, empty, some) kept at_end = λ is_any.
     let line = line_at_end (length walked) (Some x) left rest walked keeps (keeps_nothing left rest kept) at_end none (omega arith) in
     (omega (arith, some is_any, length_keeps x walked left keeps), is ∙ ap (take (limit + 1)) line.line, line.unread)
-
-pub walked_nothing : (limit : ℕ) (told left rest : Option (List ℕ)) (held : List ℕ) (any : Bool) → Walked limit told left held any → Keeps left rest → IsAtEnd rest → IfSome told (λ x. any ≡ false → x ≡ [])
-walked_nothing limit None left rest held any w kept at_end = tt
-walked_nothing limit (Some x) None rest held any (walked, keeps, none, is, empty, some) kept at_end = absurd keeps
-walked_nothing limit (Some x) (Some y) None held any (walked, keeps, none, is, empty, some) kept at_end = absurd kept
-walked_nothing limit (Some x) (Some y) (Some z) held any (walked, keeps, none, is, empty, some) kept at_end = λ is_none.
-    sym keeps ∙ ap (λ l. l ++ y) (empty is_none) ∙ sym kept ∙ at_end
 
 -- a line feed is among what was pulled
 pub walked_feed : (limit : ℕ) (told left source : Option (List ℕ)) (held new ahead after : List ℕ) (any : Bool) → Walked limit told left held any → Keeps left (prepend_known ahead source)

@@ -4,8 +4,8 @@ use Rattle.jwt_access.specs.Document.{rule_of}
 use Rattle.jwt_access.specs.Rules.{Rule}
 use Rattle.jwt_access.specs.declared.access_fault.AccessFault.{AccessFault}
 use Rattle.jwt_verify.specs.Verdict.{Terms}
-use Rattle.jwt_printing.specs.Printed.{Answer}
-use Rattle.jwt_verdicts.specs.Printer.{Printer}
+use Rattle.jwt_output.specs.Printed.{Answer}
+use Rattle.jwt_output.specs.verdicts.Printer.{Printer}
 
 -- a rule that was read
 abbrev pub some_rule : Result Rule AccessFault → Result (Option Rule) AccessFault

@@ -1,7 +1,9 @@
 -- The documents of a command: a line of the input each, or what a file holds.
-use Rattle.std.specs.Prelude.{◌≡◌, ◌<◌, ◌+◌, ℕ, Bool, true, false, List, [], Option, Some, None, length, take, nat_lt, if◌then◌else◌}
+use Rattle.std.specs.Prelude.{◌≡◌, ◌<◌, ℕ, Bool, true, false, List, [], Option, Some, None, length, nat_lt, if◌then◌else◌}
 use Rattle.jwt_text.specs.Intake.{TakesAtMost}
 use Rattle.jwt_command.specs.TakenLines.{after_line, first_line, line_most}
+use Rattle.jwt_command.specs.declared.documents.TakenDocument.{TakenDocument}
+use Rattle.jwt_command.specs.declared.documents.TakenDocument.TheVariants.{Input, Line, Held as InHand}
 use Rattle.jwt_command.specs.declared.input.line.LineFault.{LineFault}
 use Rattle.jwt_command.specs.declared.input.line.LineFault.TheVariants.{OutOfMemory, Read, TooLong}
 
@@ -22,22 +24,6 @@ abbrev pub last_document : Option (List ℕ) → List ℕ → List ℕ
 last_document (Some octets) x = octets
 last_document None x = x
 
--- ---- what is held of a document
-
--- of a line all; nothing of one that is longer than the limit
-abbrev pub kept_line : ℕ → List ℕ → List ℕ
-kept_line limit octets = if nat_lt limit (length octets) then [] else octets
-
--- of a document: what is in hand, or what is held of the first line of the input
-abbrev pub read_document : ℕ → Option (List ℕ) → List ℕ → List ℕ
-read_document limit (Some octets) x = octets
-read_document limit None x = kept_line limit (first_line x)
-
--- of the last document: what is in hand, or the input as far as one octet past the limit
-abbrev pub read_last : ℕ → Option (List ℕ) → List ℕ → List ℕ
-read_last limit (Some octets) x = octets
-read_last limit None x = take (limit + 1) x
-
 -- ---- what is taken of the input
 
 -- for a document: nothing where it is in hand
@@ -50,7 +36,24 @@ abbrev pub last_most : ℕ → Option (List ℕ) → ℕ
 last_most most (Some octets) = 0
 last_most most None = most
 
+-- ---- the code's own values as contracts see them
+
+-- the octets of a document
+abbrev pub document_octets : TakenDocument → List ℕ
+document_octets (Line v) = v.items
+document_octets (InHand octets) = octets.now
+document_octets (Input intake) = intake.octets
+
 -- ---- Cited by contracts of private functions alone
+
+-- of a line all; nothing of one that is longer than the limit
+abbrev pub kept_line : ℕ → List ℕ → List ℕ
+kept_line limit octets = if nat_lt limit (length octets) then [] else octets
+
+-- of a document: what is in hand, or what is held of the first line of the input
+abbrev pub read_document : ℕ → Option (List ℕ) → List ℕ → List ℕ
+read_document limit (Some octets) x = octets
+read_document limit None x = kept_line limit (first_line x)
 
 -- the document, and what follows it is still to come
 pub record TakesDocument (limit : ℕ) (held : Option (List ℕ)) (x octets : List ℕ) (rest : Option (List ℕ)) : Type 0 where

@@ -8,11 +8,11 @@ use Rattle.jwt_policy.specs.declared.claim_fault.ClaimFault.{ClaimFault}
 use Rattle.jwt_issue.specs.ClaimSets.{claim_set_of}
 use Rattle.jwt_issue.specs.Options.{OptionParts, issued_by}
 use Rattle.jwt_issue.specs.declared.fault.IssueFault.{IssueFault}
-use Rattle.jwt_printing.specs.Faults.{claim_fault_parts, joined_parts, issue_fault_parts}
+use Rattle.jwt_output.specs.Faults.{claim_fault_parts, joined_parts, issue_fault_parts}
 use Rattle.jwt_verify.specs.Verdict.{without_line_feed}
-use Rattle.jwt_printing.specs.Printed.{Answer, refused}
+use Rattle.jwt_output.specs.Printed.{Answer, refused}
 use Rattle.jwt_command.specs.Documents.{behind, document}
-use Rattle.jwt_printing.specs.Refused.{keys_refused, unless_failed}
+use Rattle.jwt_output.specs.Refused.{keys_refused, unless_failed}
 
 abbrev pub issued_answer : Result (List ℕ) IssueFault → Answer
 issued_answer (Ok token) = record { text = token; status = 0 }

@@ -15,9 +15,9 @@ use Rattle.jwt_jwk.specs.Refusals.{IsDerFault, IsPemFault, IsSetFault}
 use Rattle.jwt_text.specs.declared.limits.TheConstants.{LONGEST_KEY_SET}
 use Rattle.jwt_words.specs.InHand.{Held}
 use Rattle.jwt_words.specs.Words.{JwkOrder, KidChoice, KidNamed, KidThumbprint, NoKid, SecretOrder}
-use Rattle.jwt_printing.specs.Jwk.{jwk_line, jwk_refused, random_failed}
-use Rattle.jwt_printing.specs.Printed.{Answer}
-use Rattle.jwt_verdicts.specs.Printer.{printer}
+use Rattle.jwt_output.specs.Jwk.{jwk_line, jwk_refused, random_failed}
+use Rattle.jwt_output.specs.Printed.{Answer}
+use Rattle.jwt_output.specs.verdicts.Printer.{printer}
 
 -- the `kid` of a key
 abbrev pub kid_by : KidChoice → KeyOctets → Option (List ℕ)

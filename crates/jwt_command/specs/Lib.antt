@@ -8,11 +8,11 @@ pub mod TakenLines
 pub mod Documents
 -- the answer of `jwt issue`
 pub mod Issue
--- the answer of `jwt keys`, in JSON or in lines
+-- the status of `jwt keys`, and its answer to a set that is refused
 pub mod Keys
 -- the result of `jwt mac`, and its line
 pub mod Mac
--- the answer of `jwt show`, in JSON or in lines
+-- the status of `jwt show`
 pub mod Show
 -- the answer of `jwt verify`
 pub mod Verify
@@ -22,18 +22,14 @@ pub mod Lines
 pub mod RunLines
 -- the answer of `jwt jwk`
 pub mod Jwk
--- the answer of `jwt policy`
+-- the status of `jwt policy`, by what it advises, and its answer to a document that is refused
 pub mod Policy
--- the answer of `jwt show --pretty`
-pub mod Pretty
 -- the answer of the command, where that is one
 pub mod Answered
 -- the amount that is taken of an input
 pub mod Stops
 -- the end of a run of the command
 pub mod Runs
--- the document that a command refuses, and what it read of it
-pub mod Subjects
 -- ---- What contracts of private functions alone cite, which nobody has to believe
 
 -- a command's input

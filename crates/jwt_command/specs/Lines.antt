@@ -4,8 +4,8 @@ use Rattle.std.specs.Io.KnownBytes.{Appends}
 use Rattle.jwt_command.specs.TakenLines.{first_line}
 use Rattle.jwt_command.specs.declared.input.line.LineFault.{LineFault}
 use Rattle.jwt_command.specs.declared.input.line.LineFault.TheVariants.{Read}
-use Rattle.jwt_words.specs.Moments.{last_moment}
-use Rattle.jwt_printing.specs.Printed.{Answer, Prints, out_of_memory}
+use Rattle.jwt_settings.specs.Moments.{last_moment}
+use Rattle.jwt_output.specs.Printed.{Answer, Prints, out_of_memory}
 
 -- ---- the lines
 

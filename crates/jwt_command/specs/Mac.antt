@@ -12,8 +12,8 @@ use Rattle.jwt_jws.specs.Forms.{CompactTexts, compact_texts}
 use Rattle.jwt_command.specs.declared.mac.MacFault.{MacFault}
 use Rattle.jwt_command.specs.declared.mac.MacFault.TheVariants.{OutOfMemory, Segments, Base64, Header, AlgMissing, AlgNotAllowed}
 use Rattle.jwt_verify.specs.Verdict.{without_line_feed}
-use Rattle.jwt_printing.specs.Printed.{Answer, read_failed, refused}
-use Rattle.jwt_printing.specs.Mac.{Digest, digest_line, key_refused}
+use Rattle.jwt_output.specs.Printed.{Answer, read_failed, refused}
+use Rattle.jwt_output.specs.Mac.{Digest, digest_line, key_refused}
 
 -- ---- the key: 1 to 4,096 octets in base64url
 

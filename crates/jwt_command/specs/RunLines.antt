@@ -10,8 +10,8 @@ use Rattle.jwt_access.specs.Rules.{Rule}
 use Rattle.jwt_access.specs.declared.access_fault.AccessFault.{AccessFault}
 use Rattle.jwt_command.specs.Access.{rule_in_hand}
 use Rattle.jwt_command.specs.Lines.{GivesLines, with_held}
-use Rattle.jwt_printing.specs.Printed.{Answer, Prints}
-use Rattle.jwt_verdicts.specs.Printer.{Printer}
+use Rattle.jwt_output.specs.Printed.{Answer, Prints}
+use Rattle.jwt_output.specs.verdicts.Printer.{Printer}
 use Rattle.jwt_command.specs.Verify.{terms_of_keys}
 
 -- what went out before and after, whether the writer has failed, and the status

@@ -11,9 +11,9 @@ use Rattle.jwt_words.specs.Words.{Command, Mac, NewSecret, Policy, VerifyLines}
 use Rattle.jwt_words.specs.declared.command.Command.{Command as CodeCommand}
 use Rattle.jwt_words.specs.declared.words.WordsFault.{WordsFault}
 use Rattle.jwt_words.specs.declared.words.WordsFault.TheVariants.{OutOfMemory, Wrong}
-use Rattle.jwt_printing.specs.Printed.{Answer, GivesWrongWords, out_of_memory}
-use Rattle.jwt_printing.specs.Refused.{printed_file_fault}
-use Rattle.jwt_verdicts.specs.Printer.{printer_for}
+use Rattle.jwt_output.specs.Printed.{Answer, GivesWrongWords, out_of_memory}
+use Rattle.jwt_output.specs.Refused.{printed_file_fault}
+use Rattle.jwt_output.specs.verdicts.Printer.{printer_for}
 use Rattle.jwt_command.specs.Answered.{IsAnswer}
 use Rattle.jwt_command.specs.Mac.{key_spelled}
 use Rattle.jwt_command.specs.RunLines.{LinesInHand, Outcome, Printed}
@@ -64,10 +64,6 @@ abbrev pub reads_nothing : Option Command → Bool
 reads_nothing (Some command) = not (reads command).input || refuses_key command
 reads_nothing None = true
 
-abbrev pub is_lines : Command → Bool
-is_lines (VerifyLines order) = true
-is_lines command = false
-
 -- the commands that end with the status 3 for more than a read, a write and a file: where the clock of `verify --lines` can't be read, and where the
 -- random source fails `jwk --new`; of them, and of `policy`, what is printed says where
 abbrev pub fails_otherwise : Command → Bool
@@ -97,3 +93,9 @@ pub record IsRun (built_in : List Meaning) (says : ℕ → List ℕ → ℕ → 
   pub known : reads_nothing asked ≡ true → Runs built_in says held asked [] false o
   -- and where the status is 3
   pub fails : o.status ≡ 3 → (source.failed ≡ true) ⊎ ((o.failed ≡ true) ⊎ ((is_some (lacking held asked) ≡ true) ⊎ (may_fail_otherwise asked ≡ true)))
+
+-- ---- Cited by contracts of private functions alone
+
+abbrev pub is_lines : Command → Bool
+is_lines (VerifyLines order) = true
+is_lines command = false

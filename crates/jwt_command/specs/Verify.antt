@@ -9,11 +9,11 @@ use Rattle.jwt_policy.specs.Document.{policy_of}
 use Rattle.jwt_policy.specs.Settings.{Settings}
 use Rattle.jwt_policy.specs.declared.policy_fault.PolicyFault.{PolicyFault}
 use Rattle.jwt_verify.specs.Verdict.{Terms}
-use Rattle.jwt_printing.specs.Printed.{Answer}
+use Rattle.jwt_output.specs.Printed.{Answer}
 use Rattle.jwt_words.specs.InHand.{Held}
 use Rattle.jwt_command.specs.Access.{rule_in_hand, under_rule}
 use Rattle.jwt_command.specs.Documents.{behind, document, last_document}
-use Rattle.jwt_verdicts.specs.Printer.{Printer, unless_read_failed}
+use Rattle.jwt_output.specs.verdicts.Printer.{Printer, unless_read_failed}
 
 -- ---- the token, behind the lines of the policy and of the key set
 

@@ -2,11 +2,11 @@
 use Rattle.std.specs.Prelude.{Option, option_map}
 use Rattle.std.specs.Borrow.{Bor}
 use Rattle.jwt_access.specs.Rules.{Rule}
-use Rattle.jwt_words.specs.Seen.{expectation_view}
-use Rattle.jwt_words.specs.declared.expectation.Expectation.{Expectation}
-use Rattle.jwt_words.specs.declared.printing.Printing.{Printing}
-use Rattle.jwt_verdicts.specs.Denied.{Demands}
-use Rattle.jwt_verdicts.specs.Printer.{Printer, printer_for}
+use Rattle.jwt_settings.specs.Seen.{expectation_view}
+use Rattle.jwt_settings.specs.declared.expectation.Expectation.{Expectation}
+use Rattle.jwt_settings.specs.declared.printing.Printing.{Printing}
+use Rattle.jwt_output.specs.verdicts.Denied.{Demands}
+use Rattle.jwt_output.specs.verdicts.Printer.{Printer, printer_for}
 use Rattle.jwt_command.specs.declared.telling.Telling.{Telling}
 
 -- an access rule, where there is one

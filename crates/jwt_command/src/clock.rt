@@ -1,9 +1,9 @@
 //! The moments of the answers of `verify --lines`.
 ghost use Rattle.std.specs.Prelude.{◌≡◌, ℕ, List, IfNone, IfSome, None};
-ghost use Rattle.jwt_words.specs.Seen.{seconds_of};
+ghost use Rattle.jwt_settings.specs.Seen.{seconds_of};
 ghost use Rattle.jwt_command.specs.Lines.{IsMoment};
 
-use jwt_words::Moment;
+use jwt_settings::Moment;
 
 /// Moments of lines, in seconds since 1970-01-01T00:00:00Z.
 pub trait Clock {

@@ -2,7 +2,7 @@
 ghost use Rattle.std.specs.Prelude.{◌≡◌, ◌≤◌, ◌+◌, ◌⊎◌, false, true, option_map, take, Err, IfErr, IfNone, IfOk, IfSome, OnOk, OnSome};
 ghost use Rattle.jwt_command.specs.Documents.{DocumentFails, TakesDocument, document_most};
 ghost use Rattle.jwt_text.specs.Intake.{TakesAtMost};
-ghost use Rattle.jwt_command.specs.Subjects.{document_octets};
+ghost use Rattle.jwt_command.specs.Documents.{document_octets};
 
 use crate::input::line::{LineFault, line};
 use jwt_text::{GREATEST_LIMIT, Intake, Source, TextFault};

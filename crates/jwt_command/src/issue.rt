@@ -1,5 +1,5 @@
 //! The command `issue`: a token of some claims by a key set.
-ghost use Rattle.std.specs.Prelude.{◌≡◌, ◌≢◌, ◌+◌, ◌⊎◌, Some, true, option_map, IfOk, IfSome};
+ghost use Rattle.std.specs.Prelude.{◌≡◌, ◌≢◌, ◌+◌, ◌⊎◌, true, option_map, IfOk, IfSome};
 ghost use Rattle.jwt_keys.specs.KeySets.{key_set};
 ghost use Rattle.jwt_issue.specs.Views.{options_parts};
 ghost use Rattle.jwt_issue.specs.Options.{issued_by};
@@ -7,10 +7,8 @@ ghost use Rattle.jwt_text.specs.Intake.{TakesAtMost};
 ghost use Rattle.jwt_command.specs.Stops.{keys_most};
 ghost use Rattle.jwt_command.specs.Issue.{claims_answer, issue_answer, of_claims, issued_answer};
 ghost use Rattle.jwt_issue.specs.ClaimSets.{claim_set_of};
-ghost use Rattle.jwt_printing.specs.Printed.{refused};
-ghost use Rattle.jwt_printing.specs.Refused.{keys_refused, unless_failed};
-ghost use Rattle.jwt_printing.specs.Views.{reply_view};
-ghost use Rattle.jwt_command.specs.Subjects.{RefusedKeys, document_octets, issue_subject, subject_view, unless_read};
+ghost use Rattle.jwt_output.specs.Refused.{keys_refused, unless_failed};
+ghost use Rattle.jwt_output.specs.Views.{reply_view};
 
 use crate::documents::{TakenDocument, document};
 use crate::input::line::LineFault;
@@ -18,8 +16,8 @@ use crate::input::whole::{read_input, without_line_feed};
 use crate::subject::{Replied, Subject};
 use jwt_issue::{ClaimSet, IssueFault, IssueOptions, issue_by};
 use jwt_keys::{KeySet, KeysFault};
+use jwt_output::{Reply, issue_fault_text, refused_claims};
 use jwt_policy::ClaimFault;
-use jwt_printing::{Reply, issue_fault_text, refused_claims};
 use jwt_text::{LONGEST_KEY_SET, LONGEST_TOKEN, Source, TextFault};
 use std::alloc::{AllocError, Global};
 
@@ -94,8 +92,6 @@ fn on_fault<'a>(
     document: TakenDocument<'a>,
 ) -> Result<Replied<'a>, AllocError>
     ensures line { IfOk result (λ a. reply_view a.reply ≡ keys_refused fault) }
-    ensures subject { IfOk result (λ a. option_map subject_view a.subject
-        ≡ Some (RefusedKeys fault (document_octets document.entry))) }
     ensures done { IfOk result (λ a. a.reply.status ≡ 1) }
 {
     let reply = Reply::refused_keys(alloc, fault.name())?;
@@ -113,8 +109,6 @@ pub(crate) fn issue<'a, R: Source>(
     ensures line { IfSome (R.remaining r.old) (λ x. IfOk result (λ a. reply_view a.reply
         ≡ issue_answer (options_parts options.entry) (option_map (λ t. t.now) keys.entry)
         (R.failed r.new) x)) }
-    ensures subject { IfSome (R.remaining r.old) (λ x. IfOk result (λ a. option_map subject_view a.subject
-        ≡ unless_read (R.failed r.new) (issue_subject (option_map (λ t. t.now) keys.entry) x))) }
     ensures stops { IfSome (R.remaining r.old) (λ x. (R.failed r.new ≡ true)
         ⊎ TakesAtMost (keys_most (LONGEST_TOKEN + 1) (option_map (λ t. t.now) keys.entry) x) x
         (R.remaining r.new)) }

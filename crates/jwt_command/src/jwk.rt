@@ -6,8 +6,8 @@ ghost use Rattle.jwt_jwk.specs.Converted.{kid_of};
 ghost use Rattle.jwt_jwk.specs.Jwk.{optional_text};
 ghost use Rattle.jwt_words.specs.Seen.{held_view, jwk_view, kid_view, secret_view};
 ghost use Rattle.jwt_jwk.specs.FaultNames.{jwk_fault_name, remedy};
-ghost use Rattle.jwt_printing.specs.Jwk.{jwk_line, jwk_refused};
-ghost use Rattle.jwt_printing.specs.Views.{reply_view};
+ghost use Rattle.jwt_output.specs.Jwk.{jwk_line, jwk_refused};
+ghost use Rattle.jwt_output.specs.Views.{reply_view};
 ghost use Rattle.jwt_command.specs.Documents.{last_most};
 ghost use Rattle.jwt_command.specs.Jwk.{AreKeys, AreKeysAs, IsFaultAs, IsJwkAnswer, IsPrinted, IsPrintedAs, JwkOfInput, JwkOfKeys, JwkOfOctets, kid_by, kept_secret, kept_secret_line, secret_answer, secret_json, secret_line, fresh_secret};
 
@@ -17,9 +17,10 @@ use jwt_jwk::{
     write_jwk_set,
 };
 use jwt_mac::{Alg, KeyView};
-use jwt_printing::{Reply, jwk_line, printed_read_fault, random_failed, refused_jwk};
+use jwt_output::{Reply, jwk_line, printed_read_fault, random_failed, refused_jwk};
+use jwt_settings::Printing;
 use jwt_text::{LONGEST_KEY_SET, Source, TextFault};
-use jwt_words::{Held, JwkOrder, KidChoice, Printing, SecretOrder};
+use jwt_words::{Held, JwkOrder, KidChoice, SecretOrder};
 use std::alloc::{AllocError, Global};
 
 /// The `kid` that is asked for.

@@ -1,16 +1,15 @@
 //! The command `keys`: the entries of a key set, in lines or in JSON.
-ghost use Rattle.std.specs.Prelude.{◌≡◌, ◌+◌, ◌⊎◌, true, option_map, IfOk, IfSome};
+ghost use Rattle.std.specs.Prelude.{◌≡◌, ◌+◌, ◌⊎◌, true, IfOk, IfSome};
 ghost use Rattle.jwt_text.specs.Intake.{TakesAtMost};
-ghost use Rattle.jwt_command.specs.Keys.{list_answer};
-ghost use Rattle.jwt_printing.specs.Views.{reply_view};
-ghost use Rattle.jwt_command.specs.Subjects.{listed_subject, subject_view, unless_read};
+ghost use Rattle.jwt_command.specs.Keys.{IsListed};
+ghost use Rattle.jwt_output.specs.Views.{reply_view};
 
 use crate::documents::{TakenDocument, read_document};
 use crate::subject::{Replied, refused_keys};
 use jwt_keys::{KeySet, KeysFault};
-use jwt_printing::{printed_read_fault, printed_set};
+use jwt_output::{printed_read_fault, printed_set};
+use jwt_settings::Printing;
 use jwt_text::{LONGEST_KEY_SET, Source};
-use jwt_words::Printing;
 use std::alloc::{AllocError, Global};
 
 /// Runs `jwt keys`, in JSON or in lines, on an input of at most 4,194,304 octets. A set without entries has no line.
@@ -19,10 +18,8 @@ pub(crate) fn keys<'a, R: Source>(
     printing: Printing,
     r: &mut R,
 ) -> Result<Replied<'a>, AllocError>
-    ensures line { IfSome (R.remaining r.old)
-        (λ x. IfOk result (λ a. reply_view a.reply ≡ list_answer printing (R.failed r.new) x)) }
-    ensures subject { IfSome (R.remaining r.old)
-        (λ x. IfOk result (λ a. option_map subject_view a.subject ≡ unless_read (R.failed r.new) (listed_subject x))) }
+    ensures answer { IfSome (R.remaining r.old)
+        (λ x. IfOk result (λ a. IsListed printing (R.failed r.new) x (reply_view a.reply))) }
     ensures taken { IfSome (R.remaining r.old)
         (λ x. (R.failed r.new ≡ true) ⊎ TakesAtMost (LONGEST_KEY_SET + 1) x (R.remaining r.new)) }
     ensures failed { IfOk result (λ a. a.reply.status ≡ 3 → R.failed r.new ≡ true) }

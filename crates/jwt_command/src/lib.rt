@@ -6,7 +6,7 @@
 //! run came to is [`Ran`](subject::Ran): the status, and the document that was refused.
 //! [`line`](input::line::line) takes one line of an input, and nothing behind it.
 //!
-//! `jwt_words` reads the words, `jwt_printing` writes the output; the answers are made here.
+//! `jwt_words` reads the words, `jwt_output` writes the output; the answers are made here.
 #![tactic(auto)]
 
 mod access;
@@ -26,4 +26,5 @@ mod telling;
 mod verify;
 pub mod verify_lines;
 
-pub use jwt_words::{Command, Files, Moment, Reads, WordsFault, read_words};
+pub use jwt_settings::Moment;
+pub use jwt_words::{Command, Files, Reads, WordsFault, read_words};

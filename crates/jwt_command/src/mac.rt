@@ -8,14 +8,14 @@ ghost use Rattle.jwt_jws.specs.Views.{texts_view};
 ghost use Rattle.jwt_command.specs.declared.mac.MacFault.TheVariants.{Base64};
 ghost use Rattle.jwt_command.specs.Mac.{algorithm_of, behind_key, digest_by, compact_digest, mac_fault_name, key_spelled, mac_answer, mac_in_hand, mac_line, mac_most, texts_digest};
 ghost use Rattle.jwt_words.specs.Words.{IsLimit};
-ghost use Rattle.jwt_printing.specs.Mac.{digest_line, key_refused};
+ghost use Rattle.jwt_output.specs.Mac.{digest_line, key_refused};
 ghost use Rattle.jwt_text.specs.Intake.{TakesAtMost};
-ghost use Rattle.jwt_printing.specs.Views.{digest_view, reply_view};
+ghost use Rattle.jwt_output.specs.Views.{digest_view, reply_view};
 
 use crate::input::whole::{read_input, without_line_feed};
 use jwt_jws::{CompactTexts, compact_texts};
 use jwt_mac::{Alg, CountDown, Message, Tag, hmac};
-use jwt_printing::{Digest, Reply, digest_line, refused_key};
+use jwt_output::{Digest, Reply, digest_line, refused_key};
 use jwt_text::{LONGEST_TOKEN, Source, TextFault};
 use std::alloc::{AllocError, Global};
 

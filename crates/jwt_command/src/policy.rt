@@ -1,31 +1,27 @@
 //! The command `policy`: what a policy means, alone or with its keys.
-ghost use Rattle.std.specs.Prelude.{◌≡◌, IfOk, Some, map, option_map};
-ghost use Rattle.jwt_text.specs.ObjectText.{object_of};
+ghost use Rattle.std.specs.Prelude.{◌≡◌, IfOk, map, option_map};
 ghost use Rattle.jwt_keys.specs.KeySets.{key_set, key_set_of};
 ghost use Rattle.jwt_keys.specs.Numbers.{numbers};
 ghost use Rattle.jwt_advice.specs.Findings.{found_alone, found_with};
 ghost use Rattle.jwt_advice.specs.Private.{entries_of, is_private};
-ghost use Rattle.jwt_verdicts.specs.Meant.{printed_policy};
-ghost use Rattle.jwt_command.specs.Policy.{meaning_of, members_or_none, policy_answer, policy_with_keys};
-ghost use Rattle.jwt_printing.specs.Views.{reply_view};
-ghost use Rattle.jwt_command.specs.Subjects.{policy_subject, set_subject, subject_view};
+ghost use Rattle.jwt_output.specs.verdicts.Meant.{status_of};
+ghost use Rattle.jwt_command.specs.Policy.{IsMeaning, IsPolicyAnswer, IsWithKeys};
+ghost use Rattle.jwt_output.specs.Views.{reply_view};
 
 use crate::documents::TakenDocument;
 use crate::subject::{Replied, refused_keys, refused_policy};
 use jwt_advice::{Findings, private_entries};
 use jwt_keys::{KeySet, KeysFault};
 use jwt_mac::Verifier;
+use jwt_output::Reply;
+use jwt_output::verdicts::printed_policy;
 use jwt_policy::{Policy, PolicyFault};
-use jwt_printing::Reply;
+use jwt_settings::Printing;
 use jwt_text::{Object, TextFault, object};
-use jwt_verdicts::printed_policy;
-use jwt_words::Printing;
 use std::alloc::{AllocError, Global};
 
 /// The members that stand in a document; none where it is no object.
-fn members_in(alloc: Global, document: &[u8]) -> Result<Object, AllocError>
-    ensures { IfOk result (λ members. members ≡ members_or_none (object_of document.now)) }
-{
+fn members_in(alloc: Global, document: &[u8]) -> Result<Object, AllocError> {
     match object(alloc, document) {
         Ok(members) => Ok(members),
         Err(TextFault::OutOfMemory) => Err(AllocError),
@@ -44,9 +40,7 @@ struct ReadPolicy<'p> {
 
 /// A policy alone.
 fn alone(alloc: Global, printing: Printing, read: &ReadPolicy<'_>) -> Result<Reply, AllocError>
-    ensures { IfOk result (λ a. reply_view a
-        ≡ printed_policy printing (members_or_none (object_of read.now.document.now))
-        read.now.policy.now (found_alone read.now.policy.now)) }
+    ensures { IfOk result (λ a. a.status ≡ status_of (found_alone read.now.policy.now).notes) }
 {
     let found = Findings::alone(alloc, read.policy)?;
     let members = members_in(alloc, read.document)?;
@@ -80,11 +74,9 @@ fn with_set(
     read: &ReadPolicy<'_>,
     set: &ReadKeys<'_>,
 ) -> Result<Reply, AllocError>
-    ensures { IfOk result (λ a. reply_view a
-        ≡ printed_policy printing (members_or_none (object_of read.now.document.now))
-        read.now.policy.now
+    ensures { IfOk result (λ a. a.status ≡ status_of
         (found_with read.now.policy.now (map meaning verifiers.now) (key_set set.now.keys.now).keys
-        (numbers is_private 0 (entries_of set.now.document.now)))) }
+        (numbers is_private 0 (entries_of set.now.document.now))).notes) }
 {
     let places = private_places(alloc, set.document)?;
     let found = Findings::with_keys(alloc, read.policy, set.keys, verifiers, places.as_slice())?;
@@ -100,10 +92,8 @@ fn with_keys<'a>(
     read: &ReadPolicy<'_>,
     document: &'a [u8],
 ) -> Result<Replied<'a>, AllocError>
-    ensures line { IfOk result (λ a. reply_view a.reply
-        ≡ policy_with_keys printing (map meaning verifiers.now) read.now.document.now read.now.policy.now
-        document.now (key_set_of document.now)) }
-    ensures subject { IfOk result (λ a. option_map subject_view a.subject ≡ set_subject (Some document.now)) }
+    ensures answer { IfOk result (λ a. IsWithKeys printing (map meaning verifiers.now) read.now.policy.now
+        document.now (key_set_of document.now) (reply_view a.reply)) }
 {
     match KeySet::read(alloc, document) {
         Ok(keys) => {
@@ -126,11 +116,8 @@ fn meaning_of<'a>(
     read: &ReadPolicy<'_>,
     keys: Option<&'a [u8]>,
 ) -> Result<Replied<'a>, AllocError>
-    ensures line { IfOk result (λ a. reply_view a.reply
-        ≡ meaning_of printing (map meaning verifiers.now) read.now.document.now read.now.policy.now
-        (option_map (λ t. t.now) keys.entry)) }
-    ensures subject { IfOk result (λ a. option_map subject_view a.subject
-        ≡ set_subject (option_map (λ t. t.now) keys.entry)) }
+    ensures answer { IfOk result (λ a. IsMeaning printing (map meaning verifiers.now) read.now.policy.now
+        (option_map (λ t. t.now) keys.entry) (reply_view a.reply)) }
 {
     match keys {
         Some(keys) => with_keys(alloc, printing, verifiers, read, keys),
@@ -147,11 +134,8 @@ pub(crate) fn policy<'a>(
     document: &'a [u8],
     keys: Option<&'a [u8]>,
 ) -> Result<Replied<'a>, AllocError>
-    ensures line { IfOk result (λ a. reply_view a.reply
-        ≡ policy_answer printing (map meaning verifiers.now) document.now
-        (option_map (λ t. t.now) keys.entry)) }
-    ensures subject { IfOk result (λ a. option_map subject_view a.subject
-        ≡ policy_subject document.now (option_map (λ t. t.now) keys.entry)) }
+    ensures answer { IfOk result (λ a. IsPolicyAnswer printing (map meaning verifiers.now) document.now
+        (option_map (λ t. t.now) keys.entry) (reply_view a.reply)) }
 {
     match Policy::read(alloc, document) {
         Ok(policy) => {

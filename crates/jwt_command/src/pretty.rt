@@ -1,27 +1,25 @@
 //! The command `show --pretty`: a token for a person.
-ghost use Rattle.std.specs.Prelude.{◌≡◌, ◌≢◌, ◌+◌, ◌⊎◌, true, option_map, IfOk, IfSome};
+ghost use Rattle.std.specs.Prelude.{◌≡◌, ◌≢◌, ◌+◌, ◌⊎◌, true, IfOk, IfSome};
 ghost use Rattle.jwt_jws.specs.Forms.{form_of};
 ghost use Rattle.jwt_text.specs.Intake.{TakesAtMost};
-ghost use Rattle.jwt_words.specs.Seen.{pretty_view, seconds_of};
 ghost use Rattle.jwt_words.specs.Words.{IsLimit};
-ghost use Rattle.jwt_command.specs.Pretty.{IsPrettyAnswer, PrettyToken};
-ghost use Rattle.jwt_printing.specs.Views.{reply_view};
-ghost use Rattle.jwt_command.specs.Subjects.{fault_of, shown_subject, subject_view, unless_read};
+ghost use Rattle.jwt_command.specs.Show.{IsShown, form_status};
+ghost use Rattle.jwt_settings.specs.declared.printing.Printing.TheVariants.{Lines};
+ghost use Rattle.jwt_output.specs.Views.{reply_view};
 
 use crate::documents::{TakenDocument, read_document};
 use crate::input::whole::without_line_feed;
 use crate::subject::{Replied, Subject, TokenReply};
 use jwt_jws::{FormFault, parse};
-use jwt_printing::{Reply, pretty_token, printed_form_fault, printed_too_long};
+use jwt_output::{Reply, pretty_token, printed_form_fault, printed_too_long};
+use jwt_settings::{Moment, Printing};
 use jwt_text::Source;
-use jwt_words::{Moment, PrettyOrder, Printing};
+use jwt_words::PrettyOrder;
 use std::alloc::{AllocError, Global};
 
 /// What stands in a token of these octets, of at most 32 signatures, or why they are none.
 fn shown(alloc: Global, now: Option<Moment>, octets: &[u8]) -> Result<TokenReply, AllocError>
-    ensures answer { IfOk result (λ a.
-        PrettyToken (seconds_of now) octets.now (form_of 32 octets.now) (reply_view a.reply)) }
-    ensures fault { IfOk result (λ a. a.fault ≡ fault_of (form_of 32 octets.now)) }
+    ensures status { IfOk result (λ a. a.reply.status ≡ form_status (form_of 32 octets.now)) }
     ensures done { IfOk result (λ a. a.reply.status ≢ 3) }
 {
     match parse(alloc, octets, 32) {
@@ -45,9 +43,7 @@ pub(crate) fn show_pretty<'a, R: Source>(
 ) -> Result<Replied<'a>, AllocError>
     requires { IsLimit order.limit }
     ensures answer { IfSome (R.remaining r.old) (λ x. IfOk result (λ a.
-        IsPrettyAnswer (pretty_view order) (R.failed r.new) x (reply_view a.reply))) }
-    ensures subject { IfSome (R.remaining r.old) (λ x. IfOk result (λ a.
-        option_map subject_view a.subject ≡ unless_read (R.failed r.new) (shown_subject order.limit x))) }
+        IsShown Lines order.limit (R.failed r.new) x (reply_view a.reply))) }
     ensures taken { IfSome (R.remaining r.old) (λ x. (R.failed r.new ≡ true)
         ⊎ TakesAtMost (order.limit + 1) x (R.remaining r.new)) }
     ensures failed { IfOk result (λ a. a.reply.status ≡ 3 → R.failed r.new ≡ true) }

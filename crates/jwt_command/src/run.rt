@@ -1,14 +1,13 @@
 //! The command, over any source and sink.
-ghost use Rattle.std.specs.Prelude.{◌≡◌, ◌⊎◌, [], None, Option, Some, map, option_map, true, false, IfOk, IfSome};
+ghost use Rattle.std.specs.Prelude.{◌≡◌, ◌⊎◌, [], None, Option, Some, map, true, false, IfOk, IfSome};
 ghost use Rattle.jwt_text.specs.Intake.{TakesAtMost};
 ghost use Rattle.jwt_words.specs.InHand.{none_held};
 ghost use Rattle.jwt_words.specs.Seen.{command_view, held_view};
 ghost use Rattle.jwt_words.specs.Words.{Command as Wanted, HasRange, command_of};
-ghost use Rattle.jwt_printing.specs.Views.{reply_view};
+ghost use Rattle.jwt_output.specs.Views.{reply_view};
 ghost use Rattle.jwt_command.specs.Answered.{IsAnswer, version_answer};
 ghost use Rattle.jwt_command.specs.Runs.{IsReading, IsRun, TellsWrong, fails_otherwise, is_lines, reads_nothing};
 ghost use Rattle.jwt_command.specs.Stops.{most_in_hand};
-ghost use Rattle.jwt_command.specs.Subjects.{IsSubject, is_of_files, subject_in_hand, subject_view};
 ghost use Rattle.jwt_command.specs.Verify.{asked_for};
 
 use crate::issue::issue;
@@ -23,8 +22,8 @@ use crate::verify::{VerifyOptions, verify};
 use crate::verify_lines::{Clock, LinesAsked, NoClock, run_lines};
 use jwt_issue::IssueOptions;
 use jwt_mac::Verifier;
-pub use jwt_printing::lack_memory;
-use jwt_printing::{Reply, printed_file_fault};
+pub use jwt_output::lack_memory;
+use jwt_output::{Reply, printed_file_fault};
 use jwt_text::{Sink, Source};
 use jwt_words::{Command, Held, WordsFault, read_words, unread};
 use std::alloc::{AllocError, Global};
@@ -113,30 +112,6 @@ pub fn run_read<'a, R: Source, W: Sink, C: Clock>(
           failed = W.failed w.new;
           status = result.status;
         }) }
-
-    // The document that was refused, if one was, and what was read of it.
-    ensures subject { (asked : Option Wanted) → IsReading words.entry asked
-        → IfSome (R.remaining r.old) (λ x.
-        IsSubject (map meaning at_hand.now.built_in.now) (held_view at_hand.now.held) asked x (R.failed r.new)
-        (option_map subject_view result.subject)
-        (record {
-          before = W.contents w.old;
-          after = W.contents w.new;
-          failed = W.failed w.new;
-          status = result.status;
-        })) }
-
-    // Of every source, where no document is in it.
-    ensures known_subject { (asked : Option Wanted) → IsReading words.entry asked
-        → is_of_files asked ≡ true
-        → IsSubject (map meaning at_hand.now.built_in.now) (held_view at_hand.now.held) asked [] false
-        (option_map subject_view result.subject)
-        (record {
-          before = W.contents w.old;
-          after = W.contents w.new;
-          failed = W.failed w.new;
-          status = result.status;
-        }) }
 {
     let command = match words {
         Ok(command) => command,
@@ -194,9 +169,6 @@ fn reply_to<'a, R: Source>(
     ensures answer { IfSome (R.remaining r.old) (λ x. IfOk result (λ a.
         IsAnswer (map meaning at_hand.now.built_in.now) (held_view at_hand.now.held)
         (command_view command.entry) (R.failed r.new) x (reply_view a.reply))) }
-    ensures subject { IfSome (R.remaining r.old) (λ x. IfOk result (λ a. option_map subject_view a.subject
-        ≡ subject_in_hand (map meaning at_hand.now.built_in.now) (held_view at_hand.now.held)
-        (command_view command.entry) (R.failed r.new) x)) }
     ensures stops { IfSome (R.remaining r.old) (λ x. (R.failed r.new ≡ true)
         ⊎ IfSome (most_in_hand (held_view at_hand.now.held) (command_view command.entry) x)
         (λ most. TakesAtMost most x (R.remaining r.new))) }
@@ -204,10 +176,6 @@ fn reply_to<'a, R: Source>(
     ensures known { reads_nothing (Some (command_view command.entry)) ≡ true
         → IfOk result (λ a. IsAnswer (map meaning at_hand.now.built_in.now) (held_view at_hand.now.held)
         (command_view command.entry) false [] (reply_view a.reply)) }
-    ensures known_subject { is_of_files (Some (command_view command.entry)) ≡ true
-        → IfOk result (λ a. option_map subject_view a.subject
-        ≡ subject_in_hand (map meaning at_hand.now.built_in.now) (held_view at_hand.now.held)
-        (command_view command.entry) false []) }
     ensures fails { IfOk result (λ a. a.reply.status ≡ 3 → (R.failed r.new ≡ true)
         ⊎ (fails_otherwise (command_view command.entry) ≡ true)) }
 {

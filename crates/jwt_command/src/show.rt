@@ -1,27 +1,23 @@
 //! The command `show`: what stands in a token, with nothing of it verified, in lines or in JSON.
-ghost use Rattle.std.specs.Prelude.{◌≡◌, ◌≢◌, ◌+◌, ◌⊎◌, true, option_map, IfOk, IfSome, Ok, Err};
+ghost use Rattle.std.specs.Prelude.{◌≡◌, ◌≢◌, ◌+◌, ◌⊎◌, true, IfOk, IfSome};
 ghost use Rattle.jwt_jws.specs.Forms.{form_of};
 ghost use Rattle.jwt_text.specs.Intake.{TakesAtMost};
-ghost use Rattle.jwt_command.specs.Show.{show_answer, printed_form};
-ghost use Rattle.jwt_printing.specs.ShownJson.{printed_form_fault, printed_token, printed_too_long};
+ghost use Rattle.jwt_command.specs.Show.{IsShown, form_status};
 ghost use Rattle.jwt_words.specs.Words.{IsLimit};
-ghost use Rattle.jwt_printing.specs.Views.{reply_view};
-ghost use Rattle.jwt_command.specs.Subjects.{fault_of, shown_subject, subject_view, unless_read};
+ghost use Rattle.jwt_output.specs.Views.{reply_view};
 
 use crate::documents::{TakenDocument, read_document};
 use crate::input::whole::without_line_feed;
 use crate::subject::{Replied, Subject, TokenReply};
 use jwt_jws::{FormFault, parse};
-use jwt_printing::{printed_form_fault, printed_read_fault, printed_token, printed_too_long};
+use jwt_output::{printed_form_fault, printed_read_fault, printed_token, printed_too_long};
+use jwt_settings::Printing;
 use jwt_text::Source;
-use jwt_words::Printing;
 use std::alloc::{AllocError, Global};
 
 /// What stands in a token of these octets, of at most 32 signatures, or why they are none.
 fn shown(alloc: Global, printing: Printing, octets: &[u8]) -> Result<TokenReply, AllocError>
-    ensures line { IfOk result
-        (λ a. reply_view a.reply ≡ printed_form printing octets.now (form_of 32 octets.now)) }
-    ensures fault { IfOk result (λ a. a.fault ≡ fault_of (form_of 32 octets.now)) }
+    ensures status { IfOk result (λ a. a.reply.status ≡ form_status (form_of 32 octets.now)) }
     ensures done { IfOk result (λ a. a.reply.status ≢ 3) }
 {
     match parse(alloc, octets, 32) {
@@ -46,10 +42,8 @@ pub(crate) fn show<'a, R: Source>(
     r: &mut R,
 ) -> Result<Replied<'a>, AllocError>
     requires { IsLimit limit }
-    ensures line { IfSome (R.remaining r.old)
-        (λ x. IfOk result (λ a. reply_view a.reply ≡ show_answer printing limit (R.failed r.new) x)) }
-    ensures subject { IfSome (R.remaining r.old)
-        (λ x. IfOk result (λ a. option_map subject_view a.subject ≡ unless_read (R.failed r.new) (shown_subject limit x))) }
+    ensures answer { IfSome (R.remaining r.old)
+        (λ x. IfOk result (λ a. IsShown printing limit (R.failed r.new) x (reply_view a.reply))) }
     ensures taken { IfSome (R.remaining r.old)
         (λ x. (R.failed r.new ≡ true) ⊎ TakesAtMost (limit + 1) x (R.remaining r.new)) }
     ensures failed { IfOk result (λ a. a.reply.status ≡ 3 → R.failed r.new ≡ true) }

@@ -1,20 +1,19 @@
 //! The document that a command refuses.
-ghost use Rattle.std.specs.Prelude.{◌≡◌, [], IfErr, IfOk, None, Some, option_map, unwrap_or};
-ghost use Rattle.jwt_printing.specs.Printed.{Prints, out_of_memory};
-ghost use Rattle.jwt_printing.specs.Refused.{printed_access_fault, printed_keys_fault, printed_policy_fault};
-ghost use Rattle.jwt_printing.specs.Views.{reply_view};
-ghost use Rattle.jwt_command.specs.Subjects.{RefusedKeys, RefusedPolicy, RefusedRule, document_octets, form_or, subject_view, token_or};
+ghost use Rattle.std.specs.Prelude.{◌≡◌, IfErr, IfOk};
+ghost use Rattle.jwt_output.specs.Printed.{Prints, out_of_memory};
+ghost use Rattle.jwt_output.specs.Refused.{printed_access_fault, printed_keys_fault, printed_policy_fault};
+ghost use Rattle.jwt_output.specs.Views.{reply_view};
 
 use crate::documents::TakenDocument;
 use jwt_access::AccessFault;
 use jwt_jws::FormFault;
 use jwt_keys::KeysFault;
-use jwt_policy::PolicyFault;
-use jwt_printing::{
+use jwt_output::{
     Reply, give, lack_memory, printed_access_fault, printed_keys_fault, printed_policy_fault, send,
 };
+use jwt_policy::PolicyFault;
+use jwt_settings::Printing;
 use jwt_text::Sink;
-use jwt_words::Printing;
 use std::alloc::{AllocError, Global};
 
 /// A document that is refused, why it is, and what the command read of it, so that whoever has more to say of it needn't read it again. No
@@ -55,7 +54,6 @@ impl<'a> Replied<'a> {
     /// No document is refused by it.
     pub(crate) fn bare(reply: Reply) -> Replied<'a>
         ensures reply { result.reply ≡ reply }
-        ensures subject { result.subject ≡ None }
     {
         Replied {
             reply,
@@ -66,7 +64,6 @@ impl<'a> Replied<'a> {
     /// This document is refused by it.
     pub(crate) fn refusing(reply: Reply, subject: Subject<'a>) -> Replied<'a>
         ensures reply { result.reply ≡ reply }
-        ensures subject { result.subject ≡ Some subject.entry }
     {
         Replied {
             reply,
@@ -83,8 +80,6 @@ pub(crate) fn refused_policy<'a>(
     document: TakenDocument<'a>,
 ) -> Result<Replied<'a>, AllocError>
     ensures line { IfOk result (λ a. reply_view a.reply ≡ printed_policy_fault printing fault) }
-    ensures subject { IfOk result (λ a. option_map subject_view a.subject
-        ≡ Some (RefusedPolicy fault (document_octets document.entry))) }
     ensures done { IfOk result (λ a. a.reply.status ≡ 1) }
 {
     let reply = printed_policy_fault(alloc, printing, &fault)?;
@@ -99,8 +94,6 @@ pub(crate) fn refused_keys<'a>(
     document: TakenDocument<'a>,
 ) -> Result<Replied<'a>, AllocError>
     ensures line { IfOk result (λ a. reply_view a.reply ≡ printed_keys_fault printing fault) }
-    ensures subject { IfOk result (λ a. option_map subject_view a.subject
-        ≡ Some (RefusedKeys fault (document_octets document.entry))) }
     ensures done { IfOk result (λ a. a.reply.status ≡ 1) }
 {
     let reply = printed_keys_fault(alloc, printing, &fault)?;
@@ -115,8 +108,6 @@ pub(crate) fn refused_rule<'a>(
     access: Option<&'a [u8]>,
 ) -> Result<Replied<'a>, AllocError>
     ensures line { IfOk result (λ a. reply_view a.reply ≡ printed_access_fault printing fault) }
-    ensures subject { IfOk result (λ a. option_map subject_view a.subject
-        ≡ Some (RefusedRule fault (unwrap_or (option_map (λ t. t.now) access.entry) []))) }
     ensures done { IfOk result (λ a. a.reply.status ≡ 1) }
 {
     let reply = printed_access_fault(alloc, printing, &fault)?;
@@ -135,8 +126,6 @@ impl TokenReply {
     /// With the token itself, where it is refused or denied.
     pub(crate) fn on<'a>(self, token: TakenDocument<'a>) -> Replied<'a>
         ensures reply { result.reply ≡ self.reply }
-        ensures subject { option_map subject_view result.subject
-            ≡ token_or self.reply.status self.fault (document_octets token.entry) }
     {
         let TokenReply { reply, fault } = self;
         let subject = if reply.status == 1 {
@@ -150,8 +139,6 @@ impl TokenReply {
     /// With the token itself, where its form has a fault.
     pub(crate) fn of_form<'a>(self, token: TakenDocument<'a>) -> Replied<'a>
         ensures reply { result.reply ≡ self.reply }
-        ensures subject { option_map subject_view result.subject
-            ≡ form_or self.fault (document_octets token.entry) }
     {
         let TokenReply { reply, fault } = self;
         match fault {
@@ -170,8 +157,6 @@ pub(crate) fn give_replied<'a, W: Sink>(
         (W.contents w.old) (W.contents w.new) (W.failed w.new) result.status) }
     ensures err { IfErr answer.entry (λ _. Prints out_of_memory
         (W.contents w.old) (W.contents w.new) (W.failed w.new) result.status) }
-    ensures subject { IfOk answer.entry (λ a. result.subject ≡ a.subject) }
-    ensures none { IfErr answer.entry (λ _. result.subject ≡ None) }
 {
     match answer {
         Ok(Replied { reply, subject }) => Ran {
@@ -191,7 +176,6 @@ pub(crate) fn give_alone<'a, W: Sink>(w: &mut W, answer: Result<Reply, AllocErro
         (W.contents w.old) (W.contents w.new) (W.failed w.new) result.status) }
     ensures err { IfErr answer (λ _. Prints out_of_memory
         (W.contents w.old) (W.contents w.new) (W.failed w.new) result.status) }
-    ensures subject { result.subject ≡ None }
 {
     Ran {
         status: give(w, answer),
@@ -203,7 +187,6 @@ pub(crate) fn give_alone<'a, W: Sink>(w: &mut W, answer: Result<Reply, AllocErro
 pub(crate) fn give_no_memory<'a, W: Sink>(w: &mut W) -> Ran<'a>
     ensures printed { Prints out_of_memory
         (W.contents w.old) (W.contents w.new) (W.failed w.new) result.status }
-    ensures subject { result.subject ≡ None }
 {
     Ran {
         status: lack_memory(w),
@@ -215,7 +198,6 @@ pub(crate) fn give_no_memory<'a, W: Sink>(w: &mut W) -> Ran<'a>
 pub(crate) fn give_wrong<'a, W: Sink>(w: &mut W, text: &str) -> Ran<'a>
     ensures printed { Prints (record { text = text.now; status = 2 })
         (W.contents w.old) (W.contents w.new) (W.failed w.new) result.status }
-    ensures subject { result.subject ≡ None }
 {
     Ran {
         status: send(w, text.as_bytes(), 2),

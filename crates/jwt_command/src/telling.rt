@@ -2,12 +2,12 @@
 ghost use Rattle.std.specs.Prelude.{◌≡◌};
 ghost use Rattle.jwt_access.specs.Moments.{moment_under};
 ghost use Rattle.jwt_command.specs.Views.{asked_of};
-ghost use Rattle.jwt_verdicts.specs.Views.{demands_view};
+ghost use Rattle.jwt_output.specs.verdicts.Views.{demands_view};
 
 use jwt_access::{AccessRule, Moment};
-use jwt_verdicts::Demands;
+use jwt_output::verdicts::Demands;
+use jwt_settings::{Expectation, Printing};
 use jwt_verify::Terms;
-use jwt_words::{Expectation, Printing};
 
 /// What the answer to a token needs beside the verdict.
 #[derive(Clone, Copy)]

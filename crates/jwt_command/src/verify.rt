@@ -1,20 +1,18 @@
 //! The command `verify`: the verdict on a token by a policy and a key set.
-ghost use Rattle.std.specs.Prelude.{◌≡◌, ◌≢◌, ◌+◌, ◌⊎◌, None, false, true, map, option_map, IfOk, IfSome};
+ghost use Rattle.std.specs.Prelude.{◌≡◌, ◌≢◌, ◌+◌, ◌⊎◌, false, true, map, option_map, IfOk, IfSome};
 ghost use Rattle.jwt_keys.specs.KeySets.{key_set};
 ghost use Rattle.jwt_verify.specs.TermsTable.{terms_meant};
-ghost use Rattle.jwt_verify.specs.Verdict.{verdict_of};
 ghost use Rattle.jwt_command.specs.Documents.{last_document, last_most};
 ghost use Rattle.jwt_text.specs.Intake.{TakesAtMost};
 ghost use Rattle.jwt_command.specs.Access.{rule_in_hand, under_rule};
 ghost use Rattle.jwt_command.specs.Stops.{keys_most, token_most, verify_most};
-ghost use Rattle.jwt_verdicts.specs.VerdictsJson.{token_json};
-ghost use Rattle.jwt_verdicts.specs.Printer.{unless_read_failed};
+ghost use Rattle.jwt_output.specs.verdicts.VerdictsJson.{token_json};
+ghost use Rattle.jwt_output.specs.verdicts.Printer.{unless_read_failed};
 ghost use Rattle.jwt_command.specs.Verify.{keys_answer, payload_in, terms_of_keys, verify_answer};
-ghost use Rattle.jwt_verdicts.specs.Verdicts.{token_answer};
+ghost use Rattle.jwt_output.specs.verdicts.Verdicts.{token_answer};
 ghost use Rattle.jwt_words.specs.Seen.{held_view};
-ghost use Rattle.jwt_printing.specs.Views.{reply_view};
+ghost use Rattle.jwt_output.specs.Views.{reply_view};
 ghost use Rattle.jwt_command.specs.Views.{asked_of, rule_view, told_by};
-ghost use Rattle.jwt_command.specs.Subjects.{form_fault, keys_subject, rule_subject, subject_view, token_subject, unless_read, verify_subject};
 
 use crate::access::rule_in_hand;
 use crate::documents::{TakenDocument, document, read_document};
@@ -25,13 +23,14 @@ use jwt_access::AccessFault;
 use jwt_jws::{FormFault, Signed};
 use jwt_keys::{KeySet, KeysFault};
 use jwt_mac::{Budget, CountDown, Verifier};
+use jwt_output::printed_read_fault;
+use jwt_output::verdicts::{report_json, report_line};
 use jwt_policy::{Policy, PolicyFault};
-use jwt_printing::printed_read_fault;
+use jwt_settings::{Expectation, Moment, Printing};
 use jwt_text::{LONGEST_KEY_SET, LONGEST_POLICY, Scratch, Source};
-use jwt_verdicts::{report_json, report_line};
 use jwt_verify::laws::{tells_reports, tells_tokens};
 use jwt_verify::{Fault, Terms, Verdict, judge_under};
-use jwt_words::{Expectation, Held, Moment, Printing};
+use jwt_words::Held;
 use std::alloc::{AllocError, Global};
 
 /// What is asked of `verify`, beside the documents, and the verifiers for it.
@@ -67,9 +66,7 @@ pub(crate) fn terms_at<'k, 'p, 'v>(
 }
 
 /// The fault of a token's form, where that is why it is refused.
-fn form_fault(verdict: &Verdict<'_>) -> Option<FormFault>
-    ensures { result ≡ form_fault verdict.now }
-{
+fn form_fault(verdict: &Verdict<'_>) -> Option<FormFault> {
     match verdict {
         Verdict::Refused(Fault::Form(fault)) => Some(*fault),
         _ => None,
@@ -85,8 +82,6 @@ fn on_octets_in_lines(
 ) -> Result<TokenReply, AllocError>
     ensures line { IfOk result (λ a. reply_view a.reply
         ≡ token_answer (asked_of telling.now) (terms_meant (λ b. meaning (b.vtable, b.value)) terms.now) token.now) }
-    ensures fault { IfOk result (λ a. a.fault
-        ≡ form_fault (verdict_of (terms_meant (λ b. meaning (b.vtable, b.value)) terms.now) token.now terms.now.policy.now.run.work)) }
     ensures done { IfOk result (λ a. a.reply.status ≢ 3) }
 {
     let mut budget = CountDown::new(terms.policy.work());
@@ -120,8 +115,6 @@ fn on_octets_in_json(
 ) -> Result<TokenReply, AllocError>
     ensures line { IfOk result (λ a. reply_view a.reply
         ≡ token_json (asked_of telling.now) (terms_meant (λ b. meaning (b.vtable, b.value)) terms.now) token.now) }
-    ensures fault { IfOk result (λ a. a.fault
-        ≡ form_fault (verdict_of (terms_meant (λ b. meaning (b.vtable, b.value)) terms.now) token.now terms.now.policy.now.run.work)) }
     ensures done { IfOk result (λ a. a.reply.status ≢ 3) }
 {
     let mut count = CountDown::new(terms.policy.work());
@@ -148,8 +141,6 @@ pub(crate) fn on_octets(
     ensures line { IfOk result (λ a. reply_view a.reply
         ≡ (told_by telling.now.printing telling.now.expected).token (rule_view telling.now.rule)
         (terms_meant (λ b. meaning (b.vtable, b.value)) terms.now) token.now) }
-    ensures fault { IfOk result (λ a. a.fault
-        ≡ form_fault (verdict_of (terms_meant (λ b. meaning (b.vtable, b.value)) terms.now) token.now terms.now.policy.now.run.work)) }
     ensures done { IfOk result (λ a. a.reply.status ≢ 3) }
 {
     match telling.printing {
@@ -169,10 +160,6 @@ fn on_token<'a, R: Source>(
         ≡ unless_read_failed (told_by telling.now.printing telling.now.expected) (R.failed r.new)
         ((told_by telling.now.printing telling.now.expected).token (rule_view telling.now.rule)
         (terms_meant (λ b. meaning (b.vtable, b.value)) terms.now) x))) }
-    ensures subject { IfSome (R.remaining r.old) (λ x. IfOk result (λ a. option_map subject_view a.subject
-        ≡ unless_read (R.failed r.new)
-        (token_subject (told_by telling.now.printing telling.now.expected) (rule_view telling.now.rule)
-        (terms_meant (λ b. meaning (b.vtable, b.value)) terms.now) None x))) }
     ensures stops { IfSome (R.remaining r.old) (λ x. (R.failed r.new ≡ true)
         ⊎ TakesAtMost (terms.now.policy.now.run.limit + 1) x (R.remaining r.new)) }
     ensures failed { IfOk result (λ a. a.reply.status ≡ 3 → R.failed r.new ≡ true) }
@@ -198,11 +185,6 @@ fn on_last<'a, R: Source>(
         ((told_by telling.now.printing telling.now.expected).token (rule_view telling.now.rule)
         (terms_meant (λ b. meaning (b.vtable, b.value)) terms.now)
         (last_document (option_map (λ t. t.now) token.entry) x)))) }
-    ensures subject { IfSome (R.remaining r.old) (λ x. IfOk result (λ a. option_map subject_view a.subject
-        ≡ unless_read (R.failed r.new)
-        (token_subject (told_by telling.now.printing telling.now.expected) (rule_view telling.now.rule)
-        (terms_meant (λ b. meaning (b.vtable, b.value)) terms.now)
-        (option_map (λ t. t.now) token.entry) x))) }
     ensures stops { IfSome (R.remaining r.old) (λ x. (R.failed r.new ≡ true)
         ⊎ TakesAtMost (last_most (terms.now.policy.now.run.limit + 1)
         (option_map (λ t. t.now) token.entry))
@@ -230,10 +212,6 @@ fn on_rule<'a, R: Source>(
         (under_rule (told_by asked.now.printing asked.now.expected) (terms_meant (λ b. meaning (b.vtable, b.value)) terms.now)
         (rule_in_hand (held_view held.entry).access)
         (last_document (held_view held.entry).token x)))) }
-    ensures subject { IfSome (R.remaining r.old) (λ x. IfOk result (λ a. option_map subject_view a.subject
-        ≡ unless_read (R.failed r.new)
-        (rule_subject (told_by asked.now.printing asked.now.expected) (terms_meant (λ b. meaning (b.vtable, b.value)) terms.now)
-        (held_view held.entry) x))) }
     ensures stops { IfSome (R.remaining r.old) (λ x. (R.failed r.new ≡ true)
         ⊎ TakesAtMost (token_most (held_view held.entry) terms.now.policy.now) x
         (R.remaining r.new)) }
@@ -264,10 +242,6 @@ fn on_keys<'a, R: Source>(
     ensures line { IfSome (R.remaining r.old) (λ x. IfOk result (λ a. reply_view a.reply
         ≡ unless_read_failed (told_by options.now.printing options.now.expected) (R.failed r.new)
         (keys_answer (told_by options.now.printing options.now.expected) (map meaning options.now.verifiers.now)
-        options.now.moment.seconds (held_view held.entry) policy.now x))) }
-    ensures subject { IfSome (R.remaining r.old) (λ x. IfOk result (λ a. option_map subject_view a.subject
-        ≡ unless_read (R.failed r.new)
-        (keys_subject (told_by options.now.printing options.now.expected) (map meaning options.now.verifiers.now)
         options.now.moment.seconds (held_view held.entry) policy.now x))) }
     ensures stops { IfSome (R.remaining r.old) (λ x. (R.failed r.new ≡ true)
         ⊎ TakesAtMost (keys_most (token_most (held_view held.entry) policy.now)
@@ -311,10 +285,6 @@ pub(crate) fn verify<'a, R: Source>(
     ensures line { IfSome (R.remaining r.old) (λ x. IfOk result (λ a. reply_view a.reply
         ≡ verify_answer (told_by options.now.printing options.now.expected) (map meaning options.now.verifiers.now)
         options.now.moment.seconds (held_view held.entry) (R.failed r.new) x)) }
-    ensures subject { IfSome (R.remaining r.old) (λ x. IfOk result (λ a. option_map subject_view a.subject
-        ≡ unless_read (R.failed r.new)
-        (verify_subject (told_by options.now.printing options.now.expected) (map meaning options.now.verifiers.now)
-        options.now.moment.seconds (held_view held.entry) x))) }
     ensures stops { IfSome (R.remaining r.old) (λ x. (R.failed r.new ≡ true)
         ⊎ TakesAtMost (verify_most (held_view held.entry) x) x (R.remaining r.new)) }
     ensures failed { IfOk result (λ a. a.reply.status ≡ 3 → R.failed r.new ≡ true) }

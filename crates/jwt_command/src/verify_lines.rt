@@ -5,14 +5,14 @@ ghost use Rattle.jwt_keys.specs.KeySets.{key_set, key_set_of};
 ghost use Rattle.jwt_policy.specs.Document.{policy_of};
 ghost use Rattle.jwt_command.specs.Access.{rule_in_hand};
 ghost use Rattle.jwt_command.specs.Lines.{CutReady, GivesLines, LineAnswered, MayHaveSent, SendsReady, StopsBy, with_held};
-ghost use Rattle.jwt_printing.specs.Printed.{out_of_memory};
+ghost use Rattle.jwt_output.specs.Printed.{out_of_memory};
 ghost use Rattle.jwt_command.specs.RunLines.{LinesByPolicy, Printed};
-ghost use Rattle.jwt_words.specs.Seen.{lines_view, held_view, seconds_of};
+ghost use Rattle.jwt_settings.specs.Seen.{seconds_of};
+ghost use Rattle.jwt_words.specs.Seen.{lines_view, held_view};
 ghost use Rattle.jwt_words.specs.Words.{VerifyLines};
 ghost use Rattle.jwt_command.specs.Runs.{RunsInHand};
-ghost use Rattle.jwt_command.specs.Subjects.{OrLacks, lines_subject, subject_view};
 ghost use Rattle.jwt_command.specs.TakenLines.{after_line, first_line};
-ghost use Rattle.jwt_verdicts.specs.Printer.{printer};
+ghost use Rattle.jwt_output.specs.verdicts.Printer.{printer};
 ghost use Rattle.jwt_command.specs.Views.{rule_view, told_by};
 ghost use Rattle.jwt_command.specs.Verify.{terms_of_keys};
 
@@ -31,10 +31,11 @@ use crate::verify::{on_octets, terms_at};
 use jwt_access::AccessFault;
 use jwt_keys::{KeySet, KeysFault};
 use jwt_mac::Verifier;
+use jwt_output::{give, lack_memory, printed_read_fault};
 use jwt_policy::{Policy, PolicyFault};
-use jwt_printing::{give, lack_memory, printed_read_fault};
+use jwt_settings::{Expectation, Moment, Printing};
 use jwt_text::{Sink, Source, write_out};
-use jwt_words::{Expectation, LinesOrder, Moment, Printing};
+use jwt_words::LinesOrder;
 use std::alloc::Global;
 
 // From how many octets on the answers that are ready are sent, where more lines are in hand.
@@ -276,14 +277,6 @@ fn lines_in_hand<'a, R: Source, W: Sink, C: Clock>(
           failed = W.failed w.new;
           status = result.status;
         })) }
-    ensures subject { OrLacks (option_map subject_view result.subject)
-        (lines_subject (Some lines.now.policy.now) (Some lines.now.keys.now) (option_map (λ t. t.now) lines.now.access))
-        (record {
-          before = W.contents w.old;
-          after = W.contents w.new;
-          failed = W.failed w.new;
-          status = result.status;
-        }) }
 {
     let printing = lines.printing;
     let policy = match Policy::read(alloc, lines.policy) {
@@ -360,15 +353,6 @@ pub(crate) fn run_lines<'a, R: Source, W: Sink, C: Clock>(
           failed = W.failed w.new;
           status = result.status;
         })) }
-    ensures subject { OrLacks (option_map subject_view result.subject)
-        (lines_subject (held_view asked.now.at_hand.held).policy (held_view asked.now.at_hand.held).keys
-        (held_view asked.now.at_hand.held).access)
-        (record {
-          before = W.contents w.old;
-          after = W.contents w.new;
-          failed = W.failed w.new;
-          status = result.status;
-        }) }
 {
     let LinesAsked { order, at_hand } = *asked;
     let held = at_hand.held;

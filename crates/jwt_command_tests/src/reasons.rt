@@ -2,16 +2,16 @@
 use jwt_access::AccessRule;
 use jwt_jws::parse;
 use jwt_keys::KeySet;
-use jwt_policy::Policy;
-use jwt_reasons::{
+use jwt_output::reasons::{
     Reason, access_reason, around_token, keys_reason, policy_reason, token_reason, token_sentences,
 };
+use jwt_policy::Policy;
 use std::alloc::{AllocError, Global};
 use std::process::Abort;
 use std::test::Fail;
 
 /// Documents, and why they are refused; an empty reason of one that isn't.
-static POLICIES: [(&str, &str); 12] = [
+static POLICIES: [(&str, &str); 14] = [
     (r#"{"algs":["HS256"]}"#, ""),
     ("", "line 1, column 1: no JSON text goes on so"),
     ("[]", "it is no JSON object"),
@@ -31,6 +31,12 @@ static POLICIES: [(&str, &str); 12] = [
         r#"{"algs":["HS256"],"leeway":86401}"#,
         r#""leeway" is a whole number from 0 to 86,400 seconds"#,
     ),
+    (
+        r#"{"algs":["HS256"],"max_age":0}"#,
+        r#""max_age" is a whole number from 1 to 4,294,967,295 seconds"#,
+    ),
+    // (a carriage return ends no line)
+    ("{\r\r\n\r7", "line 2, column 2: no JSON text goes on so"),
     (
         r#"{"algs":["HS256"],"need_kid":1}"#,
         r#""need_kid" is true or false"#,

@@ -3,9 +3,9 @@ ghost use Rattle.std.specs.Prelude.{◌≤◌};
 
 use jwt_command::documents::read_document;
 use jwt_command::{Files, Reads};
-use jwt_shown::push_quoted;
+use jwt_output::terminal::push_quoted;
+use jwt_settings::Printing;
 use jwt_text::{GREATEST_LIMIT, Intake, LONGEST_KEY_SET, LONGEST_POLICY, LONGEST_TOKEN, Reader};
-use jwt_words::Printing;
 use std::fs::{self, File};
 use std::io;
 

@@ -23,7 +23,7 @@ use jwt_command::run::{AtHand, lack_memory, run_read};
 use jwt_command::{Command, Moment, Reads, WordsFault, read_words};
 use jwt_keys::KeySet;
 use jwt_mac::Verifier;
-use jwt_printing::{give, printed_file_fault};
+use jwt_output::{give, printed_file_fault};
 use jwt_text::{LONGEST_KEY_SET, Reader, Sink, Source, Writer};
 use std::alloc::Global;
 use std::process::ExitCode;

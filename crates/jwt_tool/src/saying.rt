@@ -3,11 +3,11 @@ use jwt_command::documents::Held;
 use jwt_command::subject::Subject;
 use jwt_command::{Command, WordsFault};
 use jwt_jws::FormFault;
-use jwt_reasons::{
+use jwt_output::reasons::{
     Reason, access_reason, around_token, keys_reason, policy_reason, token_reason, token_sentences,
 };
-use jwt_shown::push_quoted;
-use jwt_words::Printing;
+use jwt_output::terminal::push_quoted;
+use jwt_settings::Printing;
 use std::alloc::AllocError;
 use std::io::IsTerminal;
 use std::str;

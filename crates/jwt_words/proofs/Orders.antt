@@ -4,8 +4,8 @@ use Rattle.std.specs.Prelude.{is_some, option_and_then}
 use Rattle.clap.specs.Words.{IsAmong, Kinds, Row, Text, fault_of, is_simple, is_simple_and_free, subcommand_of}
 use Rattle.clap.specs.declared.error.ErrorKind.{ErrorKind}
 use Rattle.clap.proofs.OnLiterals.{clap_on_literals}
-use Rattle.jwt_words.specs.Seen.{seconds_of}
-use Rattle.jwt_words.specs.declared.moment.Moment.{Moment}
+use Rattle.jwt_settings.specs.Seen.{seconds_of}
+use Rattle.jwt_settings.specs.declared.moment.Moment.{Moment}
 use Rattle.jwt_words.specs.Options.{jwt_app}
 use Rattle.jwt_words.specs.Words.{clap_command, command_in, command_under}
 

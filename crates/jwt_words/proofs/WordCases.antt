@@ -5,7 +5,7 @@ use Rattle.clap.proofs.OnLiterals.{clap_on_literals}
 use Rattle.jwt_mac.specs.Algorithm.{alg_named}
 use Rattle.jwt_mac.specs.declared.algorithm.Alg.TheVariants.{HS256, HS384}
 use Rattle.jwt_words.specs.Words.{Jwk, Keys, KidNamed, KidThumbprint, Mac, MacFile, NewSecret, NoKid, Policy, Pretty, Show, Verify, VerifyLines, Version, command_of, no_files}
-use Rattle.jwt_words.specs.declared.printing.Printing.TheVariants.{Json, Lines}
+use Rattle.jwt_settings.specs.declared.printing.Printing.TheVariants.{Json, Lines}
 
 pub key_alone : command_of None (codes "jwt" ∷ codes "mac" ∷ codes "--k" ∷ codes "AA" ∷ []) ≡ Some (Mac (codes "AA") 8192)
 unfolding clap_on_literals

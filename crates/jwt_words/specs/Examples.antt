@@ -2,7 +2,7 @@
 use Rattle.std.specs.Prelude.{◌≡◌, [], ◌∷◌, None, Some, true, false, codes}
 use Rattle.jwt_mac.specs.declared.algorithm.Alg.TheVariants.{HS256, HS384}
 use Rattle.jwt_words.specs.Words.{Jwk, Keys, KidNamed, KidThumbprint, Mac, MacFile, NewSecret, NoKid, Policy, Pretty, Show, Verify, VerifyLines, Version, command_of, no_files}
-use Rattle.jwt_words.specs.declared.printing.Printing.TheVariants.{Json, Lines}
+use Rattle.jwt_settings.specs.declared.printing.Printing.TheVariants.{Json, Lines}
 
 pub record Examples : Type 0 where
   pub key_alone : command_of None (codes "jwt" ∷ codes "mac" ∷ codes "--k" ∷ codes "AA" ∷ []) ≡ Some (Mac (codes "AA") 8192)

@@ -1,7 +1,5 @@
 -- ---- What contracts of public functions cite, in reading order
 
--- moments, in whole seconds since 1970-01-01T00:00:00Z
-pub mod Moments
 -- the options of the command `jwt`, and the command line that they make, over `clap`'s own definitions
 pub mod Options
 -- what the words of the command `jwt` ask for

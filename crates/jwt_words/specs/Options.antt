@@ -5,7 +5,7 @@ use Rattle.clap.specs.declared.builder.action.ArgAction.TheVariants.{SetTrue}
 use Rattle.clap.specs.declared.builder.value_parser.ValueParser.{ValueParser}
 use Rattle.clap.specs.declared.builder.value_parser.ValueParser.TheVariants as vp
 use Rattle.jwt_text.specs.declared.limits.TheConstants.{LONGEST_TOKEN}
-use Rattle.jwt_words.specs.Moments.{last_moment}
+use Rattle.jwt_settings.specs.Moments.{last_moment}
 use Rattle.jwt_words.specs.declared.options.Takes.{Takes}
 use Rattle.jwt_words.specs.declared.options.Takes.TheVariants.{Nothing, Text, Needed, Size, Form, Moment, MaybeMoment}
 

@@ -3,8 +3,8 @@ use Rattle.std.specs.Prelude.{ℕ, Bool, true, false, is_some, Some, if◌then�
 use Rattle.jwt_text.specs.declared.limits.TheConstants.{LONGEST_KEY_SET}
 use Rattle.jwt_mac.specs.Algorithm.{digest_size}
 use Rattle.jwt_words.specs.Words.{Command, Files, Issue, Jwk, Keys, Mac, MacFile, NewSecret, Policy, Pretty, Show, Verify, VerifyLines, Version, no_files}
-use Rattle.jwt_words.specs.declared.printing.Printing.{Printing}
-use Rattle.jwt_words.specs.declared.printing.Printing.TheVariants.{Lines}
+use Rattle.jwt_settings.specs.declared.printing.Printing.{Printing}
+use Rattle.jwt_settings.specs.declared.printing.Printing.TheVariants.{Lines}
 
 pub record Reads : Type 0 where
   -- how the answer is printed

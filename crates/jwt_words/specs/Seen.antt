@@ -1,12 +1,11 @@
 -- The crate's own types as contracts see them.
 use Rattle.std.specs.Prelude.{ℕ, Option, option_map}
-use Rattle.jwt_words.specs.Words.{Command, Expectation, Files, Issue, Jwk, JwkOrder, Keys, KidChoice, KidNamed, KidThumbprint, LinesOrder, Mac, MacFile, NewSecret, NoKid, Policy, PolicyOrder, Pretty, PrettyOrder, SecretOrder, Show, Verify, VerifyLines, Version}
-use Rattle.jwt_words.specs.declared.expectation.Expectation.{Expectation as CodeExpectation}
+use Rattle.jwt_settings.specs.Seen.{expectation_view, seconds_of}
+use Rattle.jwt_words.specs.Words.{Command, Files, Issue, Jwk, JwkOrder, Keys, KidChoice, KidNamed, KidThumbprint, LinesOrder, Mac, MacFile, NewSecret, NoKid, Policy, PolicyOrder, Pretty, PrettyOrder, SecretOrder, Show, Verify, VerifyLines, Version}
 use Rattle.jwt_words.specs.declared.jwk.JwkOrder.{JwkOrder as CodeJwk}
 use Rattle.jwt_words.specs.declared.jwk.KidChoice.{KidChoice as CodeKid}
 use Rattle.jwt_words.specs.declared.jwk.KidChoice.TheVariants as kid
 use Rattle.jwt_words.specs.declared.jwk.SecretOrder.{SecretOrder as CodeSecret}
-use Rattle.jwt_words.specs.declared.moment.Moment.{Moment}
 use Rattle.jwt_words.specs.declared.policy.PolicyOrder.{PolicyOrder as CodePolicy}
 use Rattle.jwt_words.specs.declared.pretty.PrettyOrder.{PrettyOrder as CodePretty}
 use Rattle.jwt_words.specs.declared.command.Command.{Command as CodeCommand}
@@ -20,15 +19,8 @@ use Rattle.jwt_words.specs.InHand.{Held}
 use Rattle.jwt_words.specs.Reading.{Reads}
 use Rattle.jwt_words.specs.declared.in_hand.Held.{Held as CodeHeld}
 
--- the seconds of a moment, where there is one
-abbrev pub seconds_of : Option Moment → Option ℕ
-seconds_of moment = option_map (λ m. m.seconds) moment
-
 abbrev pub files_view : CodeFiles → Files
 files_view f = record { policy = option_map (λ t. t.now) f.policy; keys = option_map (λ t. t.now) f.keys; access = option_map (λ t. t.now) f.access; token = option_map (λ t. t.now) f.token; key = option_map (λ t. t.now) f.key }
-
-abbrev pub expectation_view : CodeExpectation → Expectation
-expectation_view e = record { claim = e.claim.now; text = e.text.now }
 
 abbrev pub lines_view : CodeLines → LinesOrder
 lines_view o = record { now = seconds_of o.now; public_keys = o.public_keys; printing = o.printing; expected = option_map expectation_view o.expected; files = files_view o.files }

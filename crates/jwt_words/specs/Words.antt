@@ -12,9 +12,10 @@ use Rattle.jwt_jws.specs.declared.fault.Form.TheVariants.{Compact, Flattened, Ge
 use Rattle.clap.specs.Lexer.{name_and_value}
 use Rattle.clap.specs.ValueTests.{accepts}
 use Rattle.clap.specs.declared.builder.value_parser.ValueParser.{ValueParser}
+use Rattle.jwt_settings.specs.Seen.{Expectation}
 use Rattle.jwt_words.specs.Options.{jwt_app, limit_range, now_range}
-use Rattle.jwt_words.specs.declared.printing.Printing.{Printing}
-use Rattle.jwt_words.specs.declared.printing.Printing.TheVariants.{Json, Lines}
+use Rattle.jwt_settings.specs.declared.printing.Printing.{Printing}
+use Rattle.jwt_settings.specs.declared.printing.Printing.TheVariants.{Json, Lines}
 
 -- ---- what the words ask for
 
@@ -28,11 +29,6 @@ pub record Files : Type 0 where
 
 abbrev pub no_files : Files
 no_files = record { policy = None; keys = None; access = None; token = None; key = None }
-
--- a claim, and the text that it has to be
-pub record Expectation : Type 0 where
-  pub claim : Text
-  pub text : Text
 
 -- what `verify --lines` asks for; with no moment, it is the clock's at each line
 pub record LinesOrder : Type 0 where

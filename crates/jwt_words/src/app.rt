@@ -5,10 +5,10 @@ ghost use Rattle.clap.specs.declared.builder.command.Command.TheViews.{out-Comma
 ghost use Rattle.jwt_words.specs.Rows.{row_view};
 ghost use Rattle.jwt_words.specs.Options.{app_by, flag, issue_app, jwk_app, jwt_app, keys_app, mac_app, option, policy_app, rule_by, show_app, token_apps, top_app, verify_app};
 
-use crate::moment::LAST;
 use crate::options::{ISSUE, JWK, KEYS, MAC, OptionRow, POLICY, SHOW, Takes, VERIFY};
 use clap::builder::ValueParser;
 use clap::{Arg, ArgAction, Command};
+use jwt_settings::LAST_MOMENT;
 use jwt_text::LONGEST_TOKEN;
 use std::alloc::{AllocError, Global};
 
@@ -54,10 +54,10 @@ fn of_row<'a>(alloc: Global, row: OptionRow, has_clock: bool) -> Arg<'a>
             .value_parser(ValueParser::unsigned(1, LONGEST_TOKEN as u64))
             .default_value("8192"),
         Takes::Moment => option(alloc, name, value, help)
-            .value_parser(ValueParser::unsigned(0, LAST))
+            .value_parser(ValueParser::unsigned(0, LAST_MOMENT))
             .required(!has_clock),
         Takes::MaybeMoment => option(alloc, name, value, help)
-            .value_parser(ValueParser::unsigned(0, LAST))
+            .value_parser(ValueParser::unsigned(0, LAST_MOMENT))
             .required(false),
     }
 }

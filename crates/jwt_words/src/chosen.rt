@@ -4,18 +4,18 @@ ghost use Rattle.clap.specs.Words.{found_of, one_of, rows_of, subcommand_rows_of
 ghost use Rattle.clap.specs.declared.builder.ValueParser.TheVariants.{Unsigned};
 ghost use Rattle.jwt_words.specs.Options.{now_range};
 ghost use Rattle.jwt_words.specs.Words.{HasRange, IsLimit, alg_in, command_in, expected_in, files_in, form_in, form_named, is_named, is_set, issue_order, jwk_or_secret, keyed, keys_file_in, lines_order, mac_order, moment_in, named_moment, number_in, printing_in, show_order, verify_order};
-ghost use Rattle.jwt_words.specs.Seen.{command_view, expectation_view, files_view, lines_view, seconds_of};
+ghost use Rattle.jwt_settings.specs.Seen.{expectation_view, seconds_of};
+ghost use Rattle.jwt_words.specs.Seen.{command_view, files_view, lines_view};
 
 use crate::command::{Command, Files, LinesOrder};
-use crate::expectation::Expectation;
+use crate::expectation::expectation_of;
 use crate::jwk::{chosen_jwk, chosen_kept_secret, chosen_secret};
-use crate::moment::{LAST, Moment};
 use crate::policy::chosen_policy;
 use crate::pretty::chosen_pretty;
-use crate::printing::Printing;
 use clap::ArgMatches;
 use jwt_jws::Form;
 use jwt_mac::Alg;
+use jwt_settings::{Expectation, LAST_MOMENT, Moment, Printing};
 use jwt_text::LONGEST_TOKEN;
 
 /// The command that the words ask for.
@@ -142,7 +142,7 @@ pub(crate) fn chosen_now(options: &ArgMatches<'_>) -> Option<Moment>
     ensures { seconds_of result
         ≡ number_in now_range (one_of (codes "now") (rows_of (found_of options.now))) }
 {
-    Moment::new(number(options, "now", 0, LAST)?)
+    Moment::new(number(options, "now", 0, LAST_MOMENT)?)
 }
 
 /// The moment that `--now` names, if any; none where that is no moment.
@@ -201,7 +201,7 @@ pub(crate) fn chosen_expectation<'a>(options: &ArgMatches<'a>) -> Option<Option<
         ≡ expected_in (rows_of (found_of options.now)) }
 {
     match options.get_str("expect") {
-        Some(word) => match Expectation::of(word) {
+        Some(word) => match expectation_of(word) {
             Some(expectation) => Some(Some(expectation)),
             None => None,
         },

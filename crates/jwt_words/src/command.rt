@@ -3,16 +3,14 @@ ghost use Rattle.std.specs.Prelude.{◌≡◌, ◌≤◌};
 ghost use Rattle.jwt_words.specs.Reading.{files_alone, files_and_input, reads};
 ghost use Rattle.jwt_words.specs.Seen.{command_view, files_view, reads_view};
 ghost use Rattle.jwt_words.specs.Words.{no_files};
-ghost use Rattle.jwt_words.specs.declared.printing.Printing.TheVariants.{Lines};
+ghost use Rattle.jwt_settings.specs.declared.printing.Printing.TheVariants.{Lines};
 
-use crate::expectation::Expectation;
 use crate::jwk::{JwkOrder, SecretOrder};
-use crate::moment::Moment;
 use crate::policy::PolicyOrder;
 use crate::pretty::PrettyOrder;
-use crate::printing::Printing;
 use jwt_jws::Form;
 use jwt_mac::Alg;
+use jwt_settings::{Expectation, Moment, Printing};
 use jwt_text::LONGEST_KEY_SET;
 
 /// The files that are named, in the place of standard input.

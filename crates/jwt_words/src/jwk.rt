@@ -8,10 +8,10 @@ ghost use Rattle.jwt_words.specs.Words.{asks_of_public_keys, is_public_alg, jwk_
 use crate::chosen::{chosen_printing, is_named, is_set};
 use crate::command::Files;
 use crate::nearest::nearest;
-use crate::printing::Printing;
 use crate::wrong::unknown_value;
 use clap::ArgMatches;
 use jwt_mac::Alg;
+use jwt_settings::Printing;
 use std::alloc::{AllocError, Global};
 
 /// The `kid` that each key gets.

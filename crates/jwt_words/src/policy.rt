@@ -7,8 +7,8 @@ ghost use Rattle.jwt_words.specs.Words.{documents_in, policy_order};
 use crate::chosen::chosen_printing;
 use crate::command::Files;
 use crate::jwk::value;
-use crate::printing::Printing;
 use clap::ArgMatches;
+use jwt_settings::Printing;
 
 /// What `policy` asks for: what a policy means, with the keys of a key set or without.
 #[derive(Clone, Copy)]

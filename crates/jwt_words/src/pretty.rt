@@ -1,12 +1,13 @@
 //! The words of `show --pretty`.
 ghost use Rattle.std.specs.Prelude.{◌≡◌, IfSome, option_map};
 ghost use Rattle.clap.specs.Words.{found_of, rows_of};
-ghost use Rattle.jwt_words.specs.Seen.{pretty_view, seconds_of};
+ghost use Rattle.jwt_settings.specs.Seen.{seconds_of};
+ghost use Rattle.jwt_words.specs.Seen.{pretty_view};
 ghost use Rattle.jwt_words.specs.Words.{IsLimit, pretty_order, shown_moment};
 
 use crate::chosen::{chosen_now, is_set, number};
-use crate::moment::Moment;
 use clap::ArgMatches;
+use jwt_settings::Moment;
 use jwt_text::LONGEST_TOKEN;
 
 /// What `show --pretty` asks for: a token for a person.

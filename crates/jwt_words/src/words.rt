@@ -2,14 +2,15 @@
 ghost use Rattle.std.specs.Prelude.{◌≡◌, IfOk, IfErr, None, Some, map};
 ghost use Rattle.jwt_words.specs.Words.{HasRange, asks_version, clap_command, command_of};
 ghost use Rattle.jwt_words.specs.Examples.{Examples};
-ghost use Rattle.jwt_words.specs.Seen.{IsWrong, command_view, seconds_of};
+ghost use Rattle.jwt_settings.specs.Seen.{seconds_of};
+ghost use Rattle.jwt_words.specs.Seen.{IsWrong, command_view};
 
 use crate::app::command;
 use crate::chosen::chosen;
 use crate::command::Command;
-use crate::moment::Moment;
 use crate::wrong::unknown_name;
 use clap::error::ErrorKind;
+use jwt_settings::Moment;
 use std::alloc::{AllocError, Global};
 
 /// Why the words ask for nothing.

@@ -1,6 +1,6 @@
 use Rattle.std.proofs.Common.{◌≤◌, ℕ, Option, None, Some, IfSome}
-use Rattle.jwt_words.specs.Moments.{last_moment}
-use Rattle.jwt_words.specs.declared.moment.Moment.{Moment}
+use Rattle.jwt_settings.specs.Moments.{last_moment}
+use Rattle.jwt_settings.specs.declared.moment.Moment.{Moment}
 use Rattle.jwt_command.proofs.clock.moment.Goals as goal
 
 -- a moment has its range by its type

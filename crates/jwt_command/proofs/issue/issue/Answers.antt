@@ -1,14 +1,12 @@
-use Rattle.std.proofs.Common.{◌+◌, rules, ◌≡◌, ◌∙◌, inr, ap, sym, subst, option_map, Option, IfOk}
+use Rattle.std.proofs.Common.{◌+◌, rules, ◌≡◌, ◌∙◌, inr, ap, sym, subst, option_map, IfOk}
 use Rattle.std.proofs.lemmas.Option.{IfSome_then}
 use Rattle.jwt_text.specs.declared.limits.TheConstants.{LONGEST_KEY_SET, LONGEST_TOKEN}
-use Rattle.jwt_printing.specs.Printed.{Answer}
+use Rattle.jwt_output.specs.Printed.{Answer}
 use Rattle.jwt_keys.specs.KeySets.{key_set, key_set_of}
 use Rattle.jwt_command.specs.Documents.{document}
 use Rattle.jwt_command.specs.Stops.{behind_keys}
-use Rattle.jwt_printing.specs.Views.{reply_view}
+use Rattle.jwt_output.specs.Views.{reply_view}
 use Rattle.jwt_issue.specs.Views.{options_parts}
-use Rattle.jwt_command.specs.Subjects.{Subject, subject_view}
-use Rattle.jwt_command.proofs.Refusing.{keys_long_subject, keys_refused_subject}
 use Rattle.jwt_command.proofs.Verifying.{behind_keys_taken, document_stops, issue_line_too_long}
 use Rattle.jwt_command.proofs.issue.issue.Goals as goal
 
@@ -17,12 +15,6 @@ returns-in-Err-TooLong-clause-line g c =
     IfSome_then (g.R.Source.remaining c.args.r.now) c.in-Err-TooLong.ensures.fails
     (λ x h. let long = rw c.in-Err-TooLong.field-0-is at h in
     subst (λ (a : Answer). IfOk c.on_fault.result (λ r. reply_view r.reply ≡ a)) (issue_line_too_long (options_parts c.args.options) (option_map (λ t. t.now) c.args.keys) x _ long.1 long.0) c.on_fault.ensures.line)
-
-pub returns-in-Err-TooLong-clause-subject : goal.returns-in-Err-TooLong-clause-subject
-returns-in-Err-TooLong-clause-subject g c =
-    IfSome_then (g.R.Source.remaining c.args.r.now) c.in-Err-TooLong.ensures.fails
-    (λ x h. let long = rw c.in-Err-TooLong.field-0-is at h in
-    subst (λ (s : Option Subject). IfOk c.on_fault.result (λ r. option_map subject_view r.subject ≡ s)) (keys_long_subject (option_map (λ t. t.now) c.args.keys) x _ _ long.1 long.0 long.2) c.on_fault.ensures.subject)
 
 pub returns-in-Err-TooLong-clause-stops : goal.returns-in-Err-TooLong-clause-stops
 returns-in-Err-TooLong-clause-stops g c = IfSome_then (g.R.Source.remaining c.args.r.now) c.in-Err-TooLong.ensures.taken (λ x h. document_stops LONGEST_KEY_SET (behind_keys (LONGEST_TOKEN + 1) (key_set_of (document (option_map (λ t. t.now) c.args.keys) x))) (option_map (λ t. t.now) c.args.keys) x _ _ h)
@@ -42,9 +34,6 @@ returns-in-Err-OutOfMemory-read-clause-stops g c = IfSome_then (g.R.Source.remai
 pub returns : goal.returns
 returns g c = record {
   line = search rules;
-  subject = IfSome_then (g.R.Source.remaining c.args.r.now) c.in-Ok.ensures.document (λ x h.
-      subst (λ (s : Option Subject). IfOk c.on_fault-in-Err.result (λ r. option_map subject_view r.subject ≡ s))
-      (keys_refused_subject (option_map (λ t. t.now) c.args.keys) x _ _ _ c.in-Err.fault _ h c.in-Ok.ensures.works (search rules)) c.on_fault-in-Err.ensures.subject);
   failed = search rules;
   stops = IfSome_then (g.R.Source.remaining c.args.r.now) c.in-Ok.ensures.document (λ x h. document_stops LONGEST_KEY_SET (behind_keys (LONGEST_TOKEN + 1) (key_set_of (document (option_map (λ t. t.now) c.args.keys) x))) (option_map (λ t. t.now) c.args.keys) x _ _ (inr h.taken));
 }

@@ -1,17 +1,14 @@
-use Rattle.std.proofs.Common.{rules, ◌≡◌, inr, map, option_map, Option, subst, IfOk, IfSome, ◌∙◌, sym, ap}
+use Rattle.std.proofs.Common.{rules, ◌≡◌, inr, map, subst, IfOk, ◌∙◌, sym, ap}
 use Rattle.std.proofs.lemmas.Option.{IfSome_then}
 use Rattle.jwt_text.specs.declared.limits.TheConstants.{LONGEST_KEY_SET}
-use Rattle.jwt_printing.specs.Printed.{Answer}
+use Rattle.jwt_output.specs.Printed.{Answer}
 use Rattle.jwt_keys.specs.KeySets.{key_set, key_set_of}
 use Rattle.jwt_command.specs.Documents.{document}
 use Rattle.jwt_command.specs.Stops.{behind_keys, token_most}
-use Rattle.jwt_command.specs.Subjects.{Subject, rule_subject, subject_view, unless_read}
-use Rattle.jwt_verify.specs.TermsTable.{terms_meant}
-use Rattle.jwt_verify.specs.Verdict.{Terms}
 use Rattle.jwt_command.specs.Views.{told_by}
 use Rattle.jwt_words.specs.Seen.{held_view}
-use Rattle.jwt_printing.specs.Views.{reply_view}
-use Rattle.jwt_command.proofs.Refusing.{keys_long_subject, keys_read, keys_read_subject, keys_refused_subject}
+use Rattle.jwt_output.specs.Views.{reply_view}
+use Rattle.jwt_command.proofs.Refusing.{keys_read}
 use Rattle.jwt_command.proofs.Verifying.{behind_keys_taken, document_stops, keys_line_too_long}
 use Rattle.jwt_command.proofs.verify.on_keys.Goals as goal
 
@@ -20,12 +17,6 @@ returns-in-Err-TooLong-clause-line g c =
     IfSome_then (g.R.Source.remaining c.args.r.now) c.in-Err-TooLong.ensures.fails
     (λ x h. let long = rw c.in-Err-TooLong.field-0-is at h in
     subst (λ (a : Answer). IfOk c.refused_keys.result (λ r. reply_view r.reply ≡ a)) (keys_line_too_long (told_by c.args.options.now.printing c.args.options.now.expected) (map (λ b. (goal.Verifier-dyn g (b.vtable, b.value)).meaning b.value) c.args.options.now.verifiers.now) c.args.options.now.moment.seconds (held_view c.args.held) c.args.policy.now x _ long.1 long.0) c.refused_keys.ensures.line)
-
-pub returns-in-Err-TooLong-clause-subject : goal.returns-in-Err-TooLong-clause-subject
-returns-in-Err-TooLong-clause-subject g c =
-    IfSome_then (g.R.Source.remaining c.args.r.now) c.in-Err-TooLong.ensures.fails
-    (λ x h. let long = rw c.in-Err-TooLong.field-0-is at h in
-    subst (λ (s : Option Subject). IfOk c.refused_keys.result (λ r. option_map subject_view r.subject ≡ s)) (keys_long_subject (held_view c.args.held).keys x _ _ long.1 long.0 long.2) c.refused_keys.ensures.subject)
 
 pub returns-in-Err-TooLong-clause-stops : goal.returns-in-Err-TooLong-clause-stops
 returns-in-Err-TooLong-clause-stops g c = IfSome_then (g.R.Source.remaining c.args.r.now) c.in-Err-TooLong.ensures.taken (λ x h. document_stops LONGEST_KEY_SET (behind_keys (token_most (held_view c.args.held) c.args.policy.now) (key_set_of (document (held_view c.args.held).keys x))) (held_view c.args.held).keys x _ _ h)
@@ -48,27 +39,12 @@ returns-in-Ok-read-clause-line g c =
     keys_read (told_by c.args.options.now.printing c.args.options.now.expected) (λ a. reply_view a.reply) c.on_rule.result vs c.args.options.now.moment.seconds (held_view c.args.held) c.args.policy.now (key_set c.in-Ok-read.keys) x _ _ _
     h (ap key_set_of (sym c.octets.ensures) ∙ c.in-Ok-read.ensures.answer) (rw c.terms_at-terms.ensures.meant at (rw c.of-asked.ensures.printing at (rw c.of-asked.ensures.expected at c.on_rule.ensures.line))))
 
-pub returns-in-Ok-read-clause-subject : goal.returns-in-Ok-read-clause-subject
-returns-in-Ok-read-clause-subject g c =
-    let vs = map (λ b. (goal.Verifier-dyn g (b.vtable, b.value)).meaning b.value) c.args.options.now.verifiers.now in
-    let q = terms_meant (λ b. (goal.Verifier-dyn g (b.vtable, b.value)).meaning b.value) c.terms_at-terms.result in
-    IfSome_then (g.R.Source.remaining c.args.r.now) c.in-Ok.ensures.document
-    (λ x h.
-    keys_read_subject (told_by c.args.options.now.printing c.args.options.now.expected) (λ a. option_map subject_view a.subject) c.on_rule.result vs c.args.options.now.moment.seconds (held_view c.args.held) c.args.policy.now (key_set c.in-Ok-read.keys) x _ _ _
-    h (ap key_set_of (sym c.octets.ensures) ∙ c.in-Ok-read.ensures.answer)
-    (subst (λ (u : Terms). IfSome (g.R.Source.remaining c.document.new.r) (λ y. IfOk c.on_rule.result (λ a. option_map subject_view a.subject ≡ unless_read (g.R.Source.failed c.on_rule.new.r) (rule_subject (told_by c.args.options.now.printing c.args.options.now.expected) u (held_view c.args.held) y)))) c.terms_at-terms.ensures.meant
-    (subst (λ e. IfSome (g.R.Source.remaining c.document.new.r) (λ y. IfOk c.on_rule.result (λ a. option_map subject_view a.subject ≡ unless_read (g.R.Source.failed c.on_rule.new.r) (rule_subject (told_by c.args.options.now.printing e) q (held_view c.args.held) y)))) c.of-asked.ensures.expected
-    (subst (λ p. IfSome (g.R.Source.remaining c.document.new.r) (λ y. IfOk c.on_rule.result (λ a. option_map subject_view a.subject ≡ unless_read (g.R.Source.failed c.on_rule.new.r) (rule_subject (told_by p c.of-asked.result.expected) q (held_view c.args.held) y)))) c.of-asked.ensures.printing c.on_rule.ensures.subject))))
-
 pub returns-in-Err-OutOfMemory-read-clause-stops : goal.returns-in-Err-OutOfMemory-read-clause-stops
 returns-in-Err-OutOfMemory-read-clause-stops g c = IfSome_then (g.R.Source.remaining c.args.r.now) c.in-Ok.ensures.document (λ x h. document_stops LONGEST_KEY_SET (behind_keys (token_most (held_view c.args.held) c.args.policy.now) (key_set_of (document (held_view c.args.held).keys x))) (held_view c.args.held).keys x _ _ (inr h.taken))
 
 pub returns : goal.returns
 returns g c = record {
   line = search rules;
-  subject = IfSome_then (g.R.Source.remaining c.args.r.now) c.in-Ok.ensures.document (λ x h.
-      subst (λ (s : Option Subject). IfOk c.refused_keys-in-Err.result (λ r. option_map subject_view r.subject ≡ s))
-      (keys_refused_subject (held_view c.args.held).keys x _ _ _ c.in-Err.fault _ h c.in-Ok.ensures.works (search rules)) c.refused_keys-in-Err.ensures.subject);
   failed = search rules;
   stops = IfSome_then (g.R.Source.remaining c.args.r.now) c.in-Ok.ensures.document (λ x h. document_stops LONGEST_KEY_SET (behind_keys (token_most (held_view c.args.held) c.args.policy.now) (key_set_of (document (held_view c.args.held).keys x))) (held_view c.args.held).keys x _ _ (inr h.taken));
 }

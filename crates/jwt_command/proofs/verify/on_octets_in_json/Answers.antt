@@ -1,11 +1,10 @@
 use Rattle.std.proofs.Common.{ap₂, ◌∙◌, subst}
 use Rattle.jwt_verify.specs.Reports.{IsReport}
 use Rattle.jwt_verify.specs.TermsTable.{terms_meant}
-use Rattle.jwt_printing.specs.Views.{reply_view}
-use Rattle.jwt_verdicts.specs.VerdictsJson.{verdict_json}
+use Rattle.jwt_output.specs.Views.{reply_view}
+use Rattle.jwt_output.specs.verdicts.VerdictsJson.{verdict_json}
 use Rattle.jwt_command.specs.Views.{asked_of}
 use Rattle.jwt_command.proofs.Verifying.{answered_in_json, read_payload}
-use Rattle.jwt_command.proofs.Refusing.{told_fault}
 use Rattle.jwt_command.proofs.verify.on_octets_in_json.Goals as goal
 
 pub returns-clause-line : goal.returns-clause-line
@@ -19,15 +18,6 @@ returns-clause-line g c =
     c.judge_under-judged.ensures.judged.report)
     (c.payload_in-payload.ensures ∙ read_payload c.args.terms.now.policy.now x r.verdict c.judge_under-judged.result.token c.tells_tokens.ensures.token found c.judge_under-judged.ensures.token)
     (c.octets.ensures ∙ c.judge_under-judged.ensures.charged.counted.octets) found (reply_view c.in_ok-reply.reply) (c.in_ok-reply.ensures.line ∙ ap₂ (λ d m. verdict_json d m r.verdict c.payload_in-payload.result.now r.states.items r.tries.items c.octets.result) c.demands-demands.ensures.asked c.demands-demands.ensures.moment)
-
-pub returns-clause-fault : goal.returns-clause-fault
-returns-clause-fault g c =
-    let q = terms_meant (λ b. (goal.Verifier-dyn g (b.vtable, b.value)).meaning b.value) c.args.terms.now in
-    let x = c.args.token.now in
-    let r = c.judge_under-judged.result.report in
-    told_fault q x c.tells_reports.ensures r
-    (subst (λ w. IsReport q x w r) (c.new-count.ensures.ceiling ∙ c.work.ensures.value)
-    c.judge_under-judged.ensures.judged.report) c.in_ok-reply.ensures.memory _ c.form_fault.ensures
 
 pub returns-clause-done : goal.returns-clause-done
 returns-clause-done g c = λ is. c.judge_under-judged.ensures.judged.read (c.in_ok-reply.ensures.failed is)

@@ -1,11 +1,10 @@
 use Rattle.std.proofs.Common.{length, ap₂, ◌∙◌, subst}
 use Rattle.jwt_verify.specs.Reports.{IsReport}
 use Rattle.jwt_verify.specs.TermsTable.{terms_meant}
-use Rattle.jwt_printing.specs.Views.{reply_view}
-use Rattle.jwt_verdicts.specs.Verdicts.{verify_line}
+use Rattle.jwt_output.specs.Views.{reply_view}
+use Rattle.jwt_output.specs.verdicts.Verdicts.{verify_line}
 use Rattle.jwt_command.specs.Views.{asked_of}
 use Rattle.jwt_command.proofs.Verifying.{answered_in_hand}
-use Rattle.jwt_command.proofs.Refusing.{told_fault}
 use Rattle.jwt_command.proofs.verify.on_octets_in_lines.Goals as goal
 
 pub returns-clause-line : goal.returns-clause-line
@@ -17,15 +16,6 @@ returns-clause-line g c =
     (subst (λ w. IsReport q x w r) (c.new-budget.ensures.ceiling ∙ c.work.ensures.value)
     c.judge_under-judged.ensures.judged.report)
     (c.octets.ensures ∙ c.judge_under-judged.ensures.charged.counted.octets) c.in_ok-reply.ensures.memory (reply_view c.in_ok-reply.reply) (c.in_ok-reply.ensures.line ∙ ap₂ (λ d m. verify_line d m r.verdict (length r.tries.items) c.octets.result) c.demands-demands.ensures.asked c.demands-demands.ensures.moment)
-
-pub returns-clause-fault : goal.returns-clause-fault
-returns-clause-fault g c =
-    let q = terms_meant (λ b. (goal.Verifier-dyn g (b.vtable, b.value)).meaning b.value) c.args.terms.now in
-    let x = c.args.token.now in
-    let r = c.judge_under-judged.result.report in
-    told_fault q x c.tells_reports.ensures r
-    (subst (λ w. IsReport q x w r) (c.new-budget.ensures.ceiling ∙ c.work.ensures.value)
-    c.judge_under-judged.ensures.judged.report) c.in_ok-reply.ensures.memory _ c.form_fault.ensures
 
 pub returns-clause-done : goal.returns-clause-done
 returns-clause-done g c = λ is. c.judge_under-judged.ensures.judged.read (c.in_ok-reply.ensures.failed is)

@@ -1,13 +1,11 @@
-use Rattle.std.proofs.Common.{rules, refl, ◌≡◌, Err, option_map}
-use Rattle.jwt_command.specs.Subjects.{subject_view}
+use Rattle.std.proofs.Common.{rules, ◌≡◌, Err}
 use Rattle.jwt_command.specs.Views.{told_by}
-use Rattle.jwt_printing.specs.Views.{reply_view}
+use Rattle.jwt_output.specs.Views.{reply_view}
 use Rattle.jwt_words.specs.Seen.{held_view}
 use Rattle.jwt_command.specs.Access.{rule_in_hand}
 use Rattle.jwt_command.specs.Documents.{last_document}
 use Rattle.jwt_command.specs.Stops.{token_most}
 use Rattle.jwt_verify.specs.TermsTable.{terms_meant}
-use Rattle.jwt_command.proofs.Refusing.{rule_refused_subject}
 use Rattle.jwt_command.proofs.Verifying.{nothing_taken, rule_refused}
 use Rattle.jwt_command.proofs.verify.on_rule.Goals as goal
 
@@ -17,7 +15,6 @@ returns-in-Err g c =
     let is : rule_in_hand (held_view c.args.held).access ≡ Err c.in-Err.fault = search rules in
     record {
       line = rule_refused (told_by c.args.asked.now.printing c.args.asked.now.expected) (λ a. reply_view a.reply) c.refused_rule.result q (rule_in_hand (held_view c.args.held).access) c.in-Err.fault (λ x. last_document (held_view c.args.held).token x) (g.R.Source.remaining c.args.r.now) _ c.requires is c.refused_rule.ensures.line;
-      subject = rule_refused_subject c.refused_rule.result (λ a. option_map subject_view a.subject) (held_view c.args.held).access c.in-Err.fault _ (g.R.Source.remaining c.args.r.now) _ _ c.requires is refl c.refused_rule.ensures.subject;
       stops = nothing_taken (λ x. token_most (held_view c.args.held) c.args.terms.now.policy.now) (g.R.Source.remaining c.args.r.now) (g.R.Source.failed c.args.r.now);
       failed = search rules;
     }

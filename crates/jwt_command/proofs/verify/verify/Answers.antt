@@ -1,15 +1,13 @@
-use Rattle.std.proofs.Common.{rules, ◌≡◌, ◌∙◌, sym, ap, Ok, inr, map, option_map, Option, subst, IfOk}
+use Rattle.std.proofs.Common.{rules, ◌≡◌, ◌∙◌, sym, ap, Ok, inr, map, subst, IfOk}
 use Rattle.std.proofs.lemmas.Option.{IfSome_then}
 use Rattle.jwt_text.specs.declared.limits.TheConstants.{LONGEST_POLICY}
-use Rattle.jwt_printing.specs.Printed.{Answer}
+use Rattle.jwt_output.specs.Printed.{Answer}
 use Rattle.jwt_policy.specs.Document.{policy_of}
 use Rattle.jwt_command.specs.Documents.{behind, document}
 use Rattle.jwt_command.specs.Stops.{behind_policy, keys_most, token_most}
-use Rattle.jwt_command.specs.Subjects.{Subject, subject_view}
 use Rattle.jwt_command.specs.Views.{told_by}
 use Rattle.jwt_words.specs.Seen.{held_view}
-use Rattle.jwt_printing.specs.Views.{reply_view}
-use Rattle.jwt_command.proofs.Refusing.{policy_long_subject, policy_read_subject, policy_refused_subject}
+use Rattle.jwt_output.specs.Views.{reply_view}
 use Rattle.jwt_command.proofs.Verifying.{document_stops, document_then_stops, policy_line_too_long, policy_read, under_policy_taken}
 use Rattle.jwt_command.proofs.verify.verify.Goals as goal
 
@@ -18,12 +16,6 @@ returns-in-Err-TooLong-clause-line g c =
     IfSome_then (g.R.Source.remaining c.args.r.now) c.in-Err-TooLong.ensures.fails
     (λ x h. let long = rw c.in-Err-TooLong.field-0-is at h in
     subst (λ (a : Answer). IfOk c.refused_policy.result (λ r. reply_view r.reply ≡ a)) (policy_line_too_long (told_by c.args.options.now.printing c.args.options.now.expected) (map (λ b. (goal.Verifier-dyn g (b.vtable, b.value)).meaning b.value) c.args.options.now.verifiers.now) c.args.options.now.moment.seconds (held_view c.args.held) x _ long.1 long.0) c.refused_policy.ensures.line)
-
-pub returns-in-Err-TooLong-clause-subject : goal.returns-in-Err-TooLong-clause-subject
-returns-in-Err-TooLong-clause-subject g c =
-    IfSome_then (g.R.Source.remaining c.args.r.now) c.in-Err-TooLong.ensures.fails
-    (λ x h. let long = rw c.in-Err-TooLong.field-0-is at h in
-    subst (λ (s : Option Subject). IfOk c.refused_policy.result (λ r. option_map subject_view r.subject ≡ s)) (policy_long_subject (held_view c.args.held).policy x _ _ long.1 long.0 long.2) c.refused_policy.ensures.subject)
 
 pub returns-in-Err-TooLong-clause-stops : goal.returns-in-Err-TooLong-clause-stops
 returns-in-Err-TooLong-clause-stops g c = IfSome_then (g.R.Source.remaining c.args.r.now) c.in-Err-TooLong.ensures.taken (λ x h. document_stops LONGEST_POLICY (behind_policy (held_view c.args.held) (policy_of (document (held_view c.args.held).policy x)) (behind (held_view c.args.held).policy x)) (held_view c.args.held).policy x _ _ h)
@@ -38,14 +30,6 @@ returns-in-Ok-read-clause-line g c =
     (λ x h.
     let is : Ok c.in-Ok-read.policy ≡ policy_of c.octets.result.now = c.in-Ok-read.ensures.answer (λ bad. cc bad) in
     policy_read (told_by c.args.options.now.printing c.args.options.now.expected) (λ a. reply_view a.reply) c.on_keys.result vs c.args.options.now.moment.seconds (held_view c.args.held) c.in-Ok-read.policy x _ _ _ h (ap policy_of (sym c.octets.ensures) ∙ sym is) c.on_keys.ensures.line)
-
-pub returns-in-Ok-read-clause-subject : goal.returns-in-Ok-read-clause-subject
-returns-in-Ok-read-clause-subject g c =
-    let vs = map (λ b. (goal.Verifier-dyn g (b.vtable, b.value)).meaning b.value) c.args.options.now.verifiers.now in
-    IfSome_then (g.R.Source.remaining c.args.r.now) c.in-Ok.ensures.document
-    (λ x h.
-    let is : Ok c.in-Ok-read.policy ≡ policy_of c.octets.result.now = c.in-Ok-read.ensures.answer (λ bad. cc bad) in
-    policy_read_subject (told_by c.args.options.now.printing c.args.options.now.expected) (λ a. option_map subject_view a.subject) c.on_keys.result vs c.args.options.now.moment.seconds (held_view c.args.held) c.in-Ok-read.policy x _ _ _ h (ap policy_of (sym c.octets.ensures) ∙ sym is) c.on_keys.ensures.subject)
 
 pub returns-in-Ok-read-clause-stops : goal.returns-in-Ok-read-clause-stops
 returns-in-Ok-read-clause-stops g c =
@@ -62,9 +46,6 @@ returns-in-Err-OutOfMemory-read-clause-stops g c = IfSome_then (g.R.Source.remai
 pub returns : goal.returns
 returns g c = record {
   line = search rules;
-  subject = IfSome_then (g.R.Source.remaining c.args.r.now) c.in-Ok.ensures.document (λ x h.
-      subst (λ (s : Option Subject). IfOk c.refused_policy-in-Err.result (λ r. option_map subject_view r.subject ≡ s))
-      (policy_refused_subject (held_view c.args.held).policy x _ _ _ c.in-Err.fault _ h c.in-Ok.ensures.works (search rules)) c.refused_policy-in-Err.ensures.subject);
   failed = search rules;
   stops = IfSome_then (g.R.Source.remaining c.args.r.now) c.in-Ok.ensures.document (λ x h. document_stops LONGEST_POLICY (behind_policy (held_view c.args.held) (policy_of (document (held_view c.args.held).policy x)) (behind (held_view c.args.held).policy x)) (held_view c.args.held).policy x _ _ (inr h.taken));
 }

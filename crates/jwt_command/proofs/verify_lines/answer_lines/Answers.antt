@@ -2,11 +2,11 @@ use Rattle.std.proofs.Common.{◌∙◌, sym, ap, subst, refl, inl, inr, ℕ, Li
 use Rattle.std.proofs.lemmas.Option.{IfSome_then}
 use Rattle.std.specs.Io.KnownBytes.{prepend_known}
 use Rattle.jwt_keys.specs.KeySets.{key_set}
-use Rattle.jwt_words.specs.Seen.{seconds_of}
+use Rattle.jwt_settings.specs.Seen.{seconds_of}
 use Rattle.jwt_command.specs.Lines.{LineAnswered, with_held}
-use Rattle.jwt_printing.specs.Printed.{Answer}
+use Rattle.jwt_output.specs.Printed.{Answer}
 use Rattle.jwt_command.specs.Views.{rule_view, told_by}
-use Rattle.jwt_words.specs.Seen.{expectation_view}
+use Rattle.jwt_settings.specs.Seen.{expectation_view}
 use Rattle.jwt_command.specs.declared.input.line.LineFault.TheVariants.{OutOfMemory}
 use Rattle.jwt_command.specs.Verify.{terms_of_keys}
 use Rattle.jwt_command.proofs.AnsweredLines.{Answering, Bounded, answering_kept, answering_more, answering_none, lines_cut, lines_done, lines_memory, lines_stopped}

@@ -1,7 +1,7 @@
 use Rattle.std.proofs.Common.{map}
 use Rattle.std.specs.Io.KnownBytes.{prepend_known}
 use Rattle.jwt_keys.specs.KeySets.{key_set}
-use Rattle.jwt_words.specs.Seen.{seconds_of}
+use Rattle.jwt_settings.specs.Seen.{seconds_of}
 use Rattle.jwt_command.specs.Lines.{with_held}
 use Rattle.jwt_command.specs.Views.{rule_view, told_by}
 use Rattle.jwt_command.specs.Verify.{terms_of_keys}

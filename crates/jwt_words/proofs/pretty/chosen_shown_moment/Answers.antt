@@ -2,7 +2,7 @@ use Rattle.std.proofs.Common.{◌∙◌, ap, ℕ, Option, List, Some}
 use Rattle.std.specs.Prelude.{codes, is_some, if◌then◌else◌, option_map}
 use Rattle.clap.specs.Words.{Row, Text, found_of, one_of, rows_of}
 use Rattle.clap.proofs.WalkLemmas.{first_value-rows}
-use Rattle.jwt_words.specs.Seen.{seconds_of}
+use Rattle.jwt_settings.specs.Seen.{seconds_of}
 use Rattle.jwt_words.specs.Options.{now_range}
 use Rattle.jwt_words.specs.Words.{number_in}
 use Rattle.jwt_words.proofs.pretty.chosen_shown_moment.Goals as goal

@@ -2,7 +2,7 @@ use Rattle.std.proofs.Common.{◌≡◌, ◌∙◌, ap, sym, subst, ⊎_elim, ma
 use Rattle.std.specs.Prelude.{is_some}
 use Rattle.std.specs.Borrow.{Bor}
 use Rattle.clap.specs.Words.{App, HasKind, Text, app_of, fault_of, is_simple, is_simple_and_free, kind_of, subcommand_of, subcommand_rows_of}
-use Rattle.jwt_words.specs.Seen.{seconds_of}
+use Rattle.jwt_settings.specs.Seen.{seconds_of}
 use Rattle.jwt_words.specs.Options.{jwt_app}
 use Rattle.jwt_words.proofs.Orders.{command_accepted, command_refused, jwt_is_free, jwt_is_simple, moment_there}
 use Rattle.jwt_words.proofs.words.read_by_clap.Goals as goal

@@ -1,0 +1,7 @@
+-- ---- For nearest.rt
+pub mod NearLemmas
+-- ---- For verdicts.rt
+pub mod Passing
+pub mod Expecting
+-- ---- For several files
+pub mod JsonLemmas

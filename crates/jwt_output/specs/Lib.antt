@@ -1,0 +1,24 @@
+-- ---- What contracts of public functions cite, in reading order
+
+-- the names of faults, with their places, as the lines of the commands have them
+pub mod Faults
+-- the member of a policy that is near to a name
+pub mod Nearest
+-- the output of a command, and its status
+pub mod Printed
+-- JSON objects that are printed, each on one line, as the kit's writer spells it
+pub mod Json
+-- the tokens of the objects that are printed, as they are written one by one
+pub mod JsonTokens
+-- the answers for a document that is refused, for a read that failed and for a file that can't be read, in JSON or in lines
+pub mod Refused
+-- the object of a token, as `jwt show --json` prints it
+pub mod ShownJson
+-- the output of `jwt jwk`
+pub mod Jwk
+-- the line of a tag
+pub mod Mac
+-- this crate's own values as contracts see them
+pub mod Views
+-- verdicts
+pub mod verdicts

@@ -1,0 +1,17 @@
+//! The reason why a document is refused, in words for a person.
+//!
+//! [`policy_reason`], [`keys_reason`], [`access_reason`] and [`token_reason`] give the [`Reason`] why a document is refused, by the fault that
+//! was found in it; where its text can't be JSON, or a name stands twice, it has the [`Position`]. What they say is tested alone. No octet of a key set or of a token is in one.
+mod answers;
+mod members;
+mod place;
+mod reason;
+mod reasons;
+mod scan;
+mod sentences;
+
+pub use answers::{around_token, token_sentences};
+pub use members::member_words;
+pub use place::{Position, place_behind};
+pub use reason::Reason;
+pub use reasons::{access_reason, keys_reason, policy_reason, token_reason};

@@ -1,4 +1,0 @@
--- ---- For shown.rt
-pub mod Tokens
--- ---- For other lemmas
-pub mod Quoted

@@ -1,4 +1,0 @@
--- ---- For laws.rt
-pub mod Passing
--- ---- For denied.rt
-pub mod Expecting
