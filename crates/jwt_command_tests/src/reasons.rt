@@ -3,9 +3,11 @@ use jwt_access::AccessRule;
 use jwt_jws::parse;
 use jwt_keys::KeySet;
 use jwt_output::reasons::{
-    Reason, access_reason, around_token, keys_reason, policy_reason, token_reason, token_sentences,
+    Reason, access_reason, around_token, claims_detail, keys_reason, policy_reason, token_reason,
+    token_sentences,
 };
 use jwt_policy::Policy;
+use jwt_settings::Moment;
 use std::alloc::{AllocError, Global};
 use std::process::Abort;
 use std::test::Fail;
@@ -195,6 +197,38 @@ static POLICIES_IN_JSON: [(&str, &str); 3] = [
     ),
 ];
 
+/// Answers, tokens with such claims, and what these have to do with the fault at the moment 20.
+static DETAILS: [(&str, &str, &str); 8] = [
+    (
+        r#"refused Expired tries=1 work=7"#,
+        "e30.eyJleHAiOjV9.",
+        r#" Its `exp` was 15 seconds before the moment of the verdict."#,
+    ),
+    (
+        r#"{"verdict":"refused","fault":"Audience"}"#,
+        "e30.eyJhdWQiOiJh4oCuYiJ9.",
+        r#" Its `aud` is "a\u202eb"."#,
+    ),
+    (
+        r#"refused Audience tries=1 work=7"#,
+        "e30.eyJhdWQiOlsiYSIsImIiLCJjIiwiZCIsImUiXX0.",
+        r#" Its `aud` is ["a", "b", "c", "d", ..]."#,
+    ),
+    (
+        r#"refused Audience tries=1 work=7"#,
+        "e30.eyJhdWQiOltdfQ.",
+        r#" Its `aud` is []."#,
+    ),
+    (r#"refused Expired tries=1 work=7"#, "e30.e30.", r#""#),
+    (
+        r#"refused NotYet tries=1 work=7"#,
+        "e30.eyJleHAiOjV9.",
+        r#""#,
+    ),
+    (r#"denied Expired"#, "e30.eyJleHAiOjV9.", r#""#),
+    (r#"refused Expired tries=1 work=7"#, "e30.W10.", r#""#),
+];
+
 /// Why a policy is refused; none where it isn't.
 fn of_policy(alloc: Global, octets: &[u8]) -> Result<Option<Reason>, AllocError> {
     match Policy::read(alloc, octets) {
@@ -309,6 +343,23 @@ fn a_reason_is_an_object_too(rt: HostRuntime) -> Result<(), Fail> {
     for &(document, wanted) in &POLICIES_IN_JSON {
         let found = json(rt.alloc(), document)?;
         assert_eq!(rt; found.as_str(), wanted, "at {document}");
+    }
+    Ok(())
+}
+
+/// Of an expired token it is told by how much, and of one for another audience for whom it is.
+#[test]
+fn claims_tell_more_of_two_faults(rt: HostRuntime) -> Result<(), Fail> {
+    let Some(now) = Moment::new(20) else {
+        return Err(Fail::new("it is no moment"));
+    };
+    for &(answer, token, wanted) in &DETAILS {
+        let found = claims_detail(rt.alloc(), answer.as_bytes(), token.as_bytes(), now)?;
+        let found = match &found {
+            Some(text) => text.as_str(),
+            None => "",
+        };
+        assert_eq!(rt; found, wanted, "at {answer}");
     }
     Ok(())
 }

@@ -1,8 +1,10 @@
 //! The reason why a document is refused, in words for a person.
 //!
 //! [`policy_reason`], [`keys_reason`], [`access_reason`] and [`token_reason`] give the [`Reason`] why a document is refused, by the fault that
-//! was found in it; where its text can't be JSON, or a name stands twice, it has the [`Position`]. What they say is tested alone. No octet of a key set or of a token is in one.
+//! was found in it; where its text can't be JSON, or a name stands twice, it has the [`Position`]. No octet of a
+//! key set is in one, and of a token only the recipients that [`claims_detail`] names. What they say is tested alone.
 mod answers;
+mod detail;
 mod members;
 mod place;
 mod reason;
@@ -11,6 +13,7 @@ mod scan;
 mod sentences;
 
 pub use answers::{around_token, token_sentences};
+pub use detail::claims_detail;
 pub use members::member_words;
 pub use place::{Position, place_behind};
 pub use reason::Reason;

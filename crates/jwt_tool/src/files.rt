@@ -156,24 +156,14 @@ pub fn read_files(rt: &HostRuntime, reads: &Reads<'_>) -> io::Result<FilesRead>
     })
 }
 
-/// How the answer to words is printed, whose input can't be read.
-pub fn printing_in(words: &[&str]) -> Printing {
-    for word in words.iter() {
-        if *word == "--json" {
-            return Printing::Json;
-        }
-    }
-    Printing::Lines
-}
-
 /// The file that stands in the place of standard input; none where it can't be opened, which is said.
 ///
 /// # Errors
 /// Where an allocation was refused.
-pub fn input_of(rt: &HostRuntime, words: &[&str], name: &str) -> io::Result<Option<File>> {
+pub fn input_of(rt: &HostRuntime, printing: Printing, name: &str) -> io::Result<Option<File>> {
     let reading = Reading {
         rt,
-        printing: printing_in(words),
+        printing,
         has_stopped: false,
     };
     match File::open(rt, name) {

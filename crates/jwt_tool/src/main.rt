@@ -10,11 +10,11 @@ mod saying;
 mod words;
 
 use crate::answered::Answered;
-use crate::files::{input_of, octets, printing_in, read_files, token_octets};
+use crate::files::{input_of, octets, read_files, token_octets};
 use crate::moments::{System, moment};
 use crate::saying::{
-    issues, reads_der, say_hint, say_how_to_go_on, say_what_is_waited_for, say_which_line,
-    say_why_not_issued, say_why_refused,
+    issues, moment_of, reads_der, say_hint, say_how_to_go_on, say_what_is_waited_for,
+    say_which_line, say_why_not_issued, say_why_refused, say_wrong,
 };
 use crate::words::{Spelled, as_meant};
 use jwt_built_in::{BuiltIn, PREPARED_KEYS};
@@ -49,8 +49,8 @@ fn main(rt: HostRuntime) -> ExitCode {
 }
 
 /// Whether the words are wrong: then nothing is read, nor is a file opened that one of them may name.
-fn are_wrong(rt: &HostRuntime, words: &[&str], clock: Option<Moment>) -> bool {
-    match read_words(rt.alloc(), words, clock) {
+fn are_wrong(asked: &Result<Command<'_>, WordsFault>) -> bool {
+    match asked {
         Err(WordsFault::Wrong(_)) => true,
         _ => false,
     }
@@ -63,15 +63,17 @@ fn run<W: Sink>(rt: &HostRuntime, clock: Option<Moment>, w: &mut Answered<W>) ->
     let words: Vec<&str> = words.iter().map(|word| word.as_str()).collect(rt.alloc())?;
     let words = words.as_slice();
     let name = match input {
-        Some(name) if name.as_str() != "-" && !are_wrong(rt, words, clock) => name,
+        Some(name) if name.as_str() != "-" => name,
         _ => return run_words(rt, clock, words, &mut Reader::new(rt.stdin()), w),
     };
-    match input_of(rt, words, name.as_str())? {
+    let asked = read_words(rt.alloc(), words, clock);
+    if are_wrong(&asked) {
+        return run_words(rt, clock, words, &mut Reader::new(rt.stdin()), w);
+    }
+    let printing = reads_of(&asked).printing;
+    match input_of(rt, printing, name.as_str())? {
         Some(file) => run_words(rt, clock, words, &mut Reader::new(file), w),
-        None => Ok(give(
-            w,
-            printed_file_fault(rt.alloc(), printing_in(words), name.as_str()),
-        )),
+        None => Ok(give(w, printed_file_fault(rt.alloc(), printing, name.as_str()))),
     }
 }
 
@@ -125,6 +127,7 @@ fn run_words<R: Source, W: Sink>(
 ) -> io::Result<u8> {
     let asked = read_words(rt.alloc(), words, clock);
     if asked.is_err() {
+        say_wrong(rt, &asked);
         say_hint(rt, words);
     }
     say_what_is_waited_for(rt, &asked);
@@ -147,12 +150,13 @@ fn run_words<R: Source, W: Sink>(
     };
     let mut moments = System { rt };
     let issues = issues(&asked);
+    let now = moment_of(&asked);
     let der = reads_der(&asked);
     let ran = run_read(rt.alloc(), asked, &at_hand, &mut moments, r, w);
     let answer = w.begin.as_slice();
     match (ran.status, &ran.subject) {
         (1, Some(subject)) => {
-            say_why_refused(rt, reads.printing, subject, answer);
+            say_why_refused(rt, reads.printing, subject, now, answer);
             say_which_line(rt, held, answer);
         }
         (1, None) if issues => say_why_not_issued(rt, reads.printing, answer),

@@ -4,10 +4,11 @@ use jwt_command::subject::Subject;
 use jwt_command::{Command, WordsFault};
 use jwt_jws::FormFault;
 use jwt_output::reasons::{
-    Reason, access_reason, around_token, keys_reason, policy_reason, token_reason, token_sentences,
+    Reason, access_reason, around_token, claims_detail, keys_reason, policy_reason, token_reason,
+    token_sentences,
 };
 use jwt_output::terminal::push_quoted;
-use jwt_settings::Printing;
+use jwt_settings::{Moment, Printing};
 use std::alloc::AllocError;
 use std::io::IsTerminal;
 use std::str;
@@ -44,20 +45,31 @@ fn say_reason(
     }
 }
 
-/// Says what became of the token, and what to do, by the answer; of a token that is read also by what stands around it.
-fn say_sentences(rt: &HostRuntime, printing: Printing, token: Option<&[u8]>, answer: &[u8]) {
-    let around = match token {
-        Some(token) => around_token(token),
-        None => None,
+/// Says what became of the token, and what to do, by the answer; of a token that is read also by what stands around it, or by what its claims
+/// have to do with the fault.
+fn say_sentences(
+    rt: &HostRuntime,
+    printing: Printing,
+    token: Option<&[u8]>,
+    detail: Option<&str>,
+    answer: &[u8],
+) {
+    let around = match (token, detail) {
+        (Some(token), None) => around_token(token),
+        _ => None,
     };
     let Some(sentences) = token_sentences(answer) else {
         return;
     };
     let words = around.unwrap_or(sentences);
+    let detail = detail.unwrap_or("");
     match printing {
         Printing::Json => {
             let mut quoted = String::new(rt.alloc());
-            if push_quoted(&mut quoted, words).is_ok() {
+            let Ok(words) = format!(in rt.alloc(); "{words}{detail}") else {
+                return;
+            };
+            if push_quoted(&mut quoted, words.as_str()).is_ok() {
                 let _ = eprintln!(rt; "{{\"document\":\"token\",\"reason\":{quoted}}}");
             }
         }
@@ -67,7 +79,7 @@ fn say_sentences(rt: &HostRuntime, printing: Printing, token: Option<&[u8]>, ans
             } else {
                 "refused"
             };
-            let _ = eprintln!(rt; "jwt: the token is {verdict}: {words}");
+            let _ = eprintln!(rt; "jwt: the token is {verdict}: {words}{detail}");
         }
     }
 }
@@ -78,16 +90,31 @@ fn say_of_token(
     printing: Printing,
     fault: Option<FormFault>,
     token: &[u8],
+    now: Option<Moment>,
     answer: &[u8],
 ) {
-    match token_reason(rt.alloc(), fault, token) {
-        Ok(Some(reason)) => say_reason(rt, printing, TOKEN, Ok(reason)),
-        _ => say_sentences(rt, printing, Some(token), answer),
+    if let Ok(Some(reason)) = token_reason(rt.alloc(), fault, token) {
+        return say_reason(rt, printing, TOKEN, Ok(reason));
     }
+    let detail = match now {
+        Some(now) => claims_detail(rt.alloc(), answer, token, now).unwrap_or(None),
+        None => None,
+    };
+    let detail = match &detail {
+        Some(text) => Some(text.as_str()),
+        None => None,
+    };
+    say_sentences(rt, printing, Some(token), detail, answer)
 }
 
-/// Says why a document is refused, or the token denied, with the beginning of the answer.
-pub fn say_why_refused(rt: &HostRuntime, printing: Printing, subject: &Subject<'_>, answer: &[u8]) {
+/// Says why a document is refused, or the token denied, at the moment of a verdict, with the beginning of the answer.
+pub fn say_why_refused(
+    rt: &HostRuntime,
+    printing: Printing,
+    subject: &Subject<'_>,
+    now: Option<Moment>,
+    answer: &[u8],
+) {
     let alloc = rt.alloc();
     match subject {
         Subject::Policy(fault, document) => {
@@ -102,7 +129,9 @@ pub fn say_why_refused(rt: &HostRuntime, printing: Printing, subject: &Subject<'
             let reason = access_reason(alloc, fault, document.octets());
             say_reason(rt, printing, ACCESS, reason);
         }
-        Subject::Token(fault, token) => say_of_token(rt, printing, *fault, token.octets(), answer),
+        Subject::Token(fault, token) => {
+            say_of_token(rt, printing, *fault, token.octets(), now, answer)
+        }
     }
 }
 
@@ -116,6 +145,14 @@ pub fn say_which_line(rt: &HostRuntime, held: Held<'_>, answer: &[u8]) {
     }
 }
 
+/// The moment of the verdict that the words ask for, if they ask for one.
+pub fn moment_of(asked: &Result<Command<'_>, WordsFault>) -> Option<Moment> {
+    match asked {
+        Ok(Command::Verify { now, .. }) => Some(*now),
+        _ => None,
+    }
+}
+
 /// Whether the words ask for a token of some claims.
 pub fn issues(asked: &Result<Command<'_>, WordsFault>) -> bool {
     match asked {
@@ -126,7 +163,7 @@ pub fn issues(asked: &Result<Command<'_>, WordsFault>) -> bool {
 
 /// Says what it means that no token is issued, by the beginning of the answer.
 pub fn say_why_not_issued(rt: &HostRuntime, printing: Printing, answer: &[u8]) {
-    say_sentences(rt, printing, None, answer);
+    say_sentences(rt, printing, None, None, answer);
 }
 
 /// Whether the words ask for the JWK of a key in DER.
@@ -155,6 +192,15 @@ pub fn say_what_is_waited_for(rt: &HostRuntime, asked: &Result<Command<'_>, Word
             let _ = eprintln!(rt;
                 "jwt: waits for a line with the policy, then for the documents that no option names: a line with the key set, and the token up to the end of input"
             );
+        }
+    }
+}
+
+/// Says again that words are wrong, where standard output is no terminal that has said it, as in `T=$(jwt ..)`. Help isn't said again.
+pub fn say_wrong(rt: &HostRuntime, asked: &Result<Command<'_>, WordsFault>) {
+    if let Err(WordsFault::Wrong(text)) = asked {
+        if text.starts_with("error:") && !rt.stdout().is_terminal() {
+            let _ = eprint!(rt; "{text}");
         }
     }
 }

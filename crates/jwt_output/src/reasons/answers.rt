@@ -29,6 +29,11 @@ fn row(rows: &[(&str, &'static str)], name: &str) -> Option<&'static str> {
     None
 }
 
+/// The name of the fault for which an answer refuses a token; none of any other answer.
+pub(crate) fn refused_name(answer: &[u8]) -> Option<&str> {
+    name_behind(str::from_utf8(answer).ok()?, &REFUSED)
+}
+
 /// What a refusal or a denial of a token means and what to do, by the line or the JSON object that the command has answered; none of any
 /// other answer.
 pub fn token_sentences(answer: &[u8]) -> Option<&'static str> {
