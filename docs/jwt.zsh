@@ -1,9 +1,7 @@
 #compdef jwt
-# Completions of the command jwt for zsh. As _jwt in a folder of $fpath, or: source docs/jwt.zsh
+# Completions of the command jwt for zsh, drawn by gate/options.py. As _jwt in a folder of $fpath, or: source docs/jwt.zsh
 
 _jwt() {
-    local -a hmac=(HS256 HS384 HS512)
-    local -a public=(RS256 RS384 RS512 PS256 PS384 PS512 ES256 ES384 ES512 EdDSA)
     local -a commands=(
         'verify:validate a token'
         'show:show a token without verifying it'
@@ -23,24 +21,54 @@ _jwt() {
     ((CURRENT--))
     case $command in
     verify)
-        _arguments '--now[the moment]:seconds or date:' '--public-keys[verify signatures by public keys too]' '--lines[answer each line]' \
-            '--json[print JSON]' '--policy[the policy]:file:_files' '--keys[the key set]:file:_files' '--access[the access rule]:file:_files' '--expect[what a claim has to be]:name=text:' \
-            '(--trim)--token[the token]:file:_files' '(--token)--trim[drop a final line feed of standard input]'
+        _arguments '--now[The moment]:n:' \
+            '--public-keys[Verifies signatures by public keys too]' \
+            '--policy[The file of the policy]:file:_files' \
+            '--keys[The file of the key set]:file:_files' \
+            '(--trim)--token[The file of the token]:file:_files' \
+            '--access[The file of an access rule]:file:_files' \
+            '--expect[The claim NAME of an accepted token has to be this very text]:name=text:' \
+            '--lines[Answers each line of standard input as a token]' \
+            '--json[Prints one JSON object on one line]' \
+            '(--token)--trim[Drops a final line feed of standard input]'
         ;;
     show)
-        _arguments '--limit[the most bytes]:number:' '--json[print JSON]' '--pretty[for a person]' '--now[the moment]:seconds or date:' '1:file:_files'
+        _arguments '--limit[The most octets of a token]:n:' \
+            '--json[Prints one JSON object on one line]' \
+            '--pretty[Prints the headers and the payload for a person]' \
+            '--now[The moment]:n:' \
+            '1:file:_files'
         ;;
     issue)
-        _arguments "--alg[the algorithm]:algorithm:($hmac)" '--typ[the media type]:type:' '--form[the form]:form:(compact json flattened)' \
-            '--keys[the key set]:file:_files'
+        _arguments '--alg[The algorithm]:choice:(HS256 HS384 HS512)' \
+            '--typ[The media type of the token]:t:' \
+            '--form[The form of the token]:choice:(compact json flattened)' \
+            '--keys[The file of the key set]:file:_files'
         ;;
     jwk)
-        _arguments '--file[the public keys]:file:_files' '--der[one key in DER]' "--alg[alg of each key]:algorithm:($public $hmac)" '--kid[kid]:name:' \
-            '--kid-thumbprint[the thumbprint as kid]' '--bare[one JWK alone]' "--new[a new secret]:algorithm:($hmac)" '--secret[the file of a secret]:file:_files' '--json[print JSON]'
+        _arguments '--file[The file of the keys]:file:_files' \
+            '--der[Reads one key in DER]' \
+            '--kid[The kid of each key]:name:' \
+            '--kid-thumbprint[Gives each key its thumbprint by SHA-256 as kid]' \
+            '--alg[The alg of each key]:choice:(HS256 HS384 HS512 RS256 RS384 RS512 PS256 PS384 PS512 ES256 ES384 ES512 EdDSA)' \
+            '--bare[Prints the JWK alone]' \
+            '--new[Makes a new secret]:choice:(HS256 HS384 HS512)' \
+            '--secret[The file of a secret]:file:_files' \
+            '--json[Prints one JSON object on one line]'
         ;;
-    keys) _arguments '--json[print JSON]' ;;
-    policy) _arguments '--policy[the policy]:file:_files' '--keys[the key set]:file:_files' '--json[print JSON]' ;;
-    mac) _arguments '--k[the key in base64url]:text:' '--key-file[the file of the key]:file:_files' '--limit[the most bytes]:number:' ;;
+    keys)
+        _arguments '--json[Prints one JSON object on one line]'
+        ;;
+    policy)
+        _arguments '--policy[The file of the policy]:file:_files' \
+            '--keys[The file of the key set that goes with it]:file:_files' \
+            '--json[Prints one JSON object on one line]'
+        ;;
+    mac)
+        _arguments '--k[The key]:text:' \
+            '--key-file[The file of the key]:file:_files' \
+            '--limit[The most octets of a token]:n:'
+        ;;
     esac
 }
 # (as a file of $fpath it is the function itself)
