@@ -1,3 +1,6 @@
+-- ---- For fields.rt
+pub mod Same
+pub mod Arrays
 -- ---- For nearest.rt
 pub mod NearLemmas
 -- ---- For verdicts.rt

@@ -22,3 +22,5 @@ pub mod Mac
 pub mod Views
 -- verdicts
 pub mod verdicts
+-- an answer as a list of fields
+pub mod fields

@@ -1,9 +1,9 @@
 //! The names of faults and of denials, with their places, as the lines of the commands have them.
 ghost use Rattle.std.specs.Prelude.{◌≡◌, ◌++◌, IfOk, string_bytes};
 ghost use Rattle.json.specs.Print.{quoted as quoted_text};
-ghost use Rattle.jwt_output.specs.Faults.{access_fault_parts, claim_fault_parts, denial_parts, form_fault_parts, issue_fault_parts, joined_parts, policy_fault_parts};
+ghost use Rattle.jwt_output.specs.Faults.{access_fault_parts, claim_fault_parts, form_fault_parts, issue_fault_parts, joined_parts, policy_fault_parts};
 
-use jwt_access::{AccessFault, Denial};
+use jwt_access::AccessFault;
 use jwt_issue::IssueFault;
 use jwt_jws::{FormFault, Place};
 use jwt_policy::{ClaimFault, PolicyFault};
@@ -67,25 +67,6 @@ pub(crate) fn access_fault_text(alloc: Global, fault: &AccessFault) -> Result<Ve
         | AccessFault::Claim(member)
         | AccessFault::ClaimRange(member) => labelled(alloc, name, " member=", member.text()),
         _ => name.as_bytes().to_vec(alloc),
-    }
-}
-
-/// What claims lack of an access rule, with the scope or the claim.
-pub fn denial_text(alloc: Global, denial: &Denial<'_>) -> Result<Vec<u8>, AllocError>
-    ensures { IfOk result (λ v. v.items ≡ joined_parts (denial_parts denial.now)) }
-{
-    let name = denial.name();
-    match denial {
-        Denial::ScopeMissing(scope) => labelled(alloc, name, " scope=", scope.text()),
-        Denial::ClaimMissing(claim)
-        | Denial::ClaimNotAllowed(claim)
-        | Denial::ClaimPresent(claim)
-        | Denial::ClaimHasOther(claim)
-        | Denial::ClaimNotObject(claim)
-        | Denial::ClaimNotDate(claim)
-        | Denial::ClaimLater(claim)
-        | Denial::ClaimTooOld(claim)
-        | Denial::ClaimNotAscii(claim) => labelled(alloc, name, " claim=", claim.text()),
     }
 }
 

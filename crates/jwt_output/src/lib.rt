@@ -5,6 +5,7 @@
 #![tactic(auto)]
 
 mod faults;
+pub mod fields;
 mod json_keys;
 mod json_out;
 mod json_refusals;
@@ -23,7 +24,7 @@ mod show;
 pub mod terminal;
 pub mod verdicts;
 
-pub use faults::{claim_fault_text, denial_text, form_fault_text, issue_fault_text};
+pub use faults::{claim_fault_text, form_fault_text, issue_fault_text};
 pub use json_out::JsonOut;
 pub use json_refusals::{put_claim_place, put_form_place, read_failed_json};
 pub use jwk::{jwk_line, random_failed, refused_jwk};

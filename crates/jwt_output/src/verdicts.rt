@@ -1,16 +1,12 @@
 //! The output of the command `jwt` for what is judged: lines and JSON of a verdict, with or without an access rule and what is expected of a claim, and of what a policy means.
 mod demands;
 mod denied;
-mod faults;
 mod json_meant;
-mod json_verdict;
 pub mod laws;
 mod meant;
 mod members;
-mod pair;
 mod verdict;
 
 pub use demands::Demands;
-pub use json_verdict::report_json;
 pub use meant::printed_policy;
-pub use verdict::report_line;
+pub use verdict::{report_json, report_line};

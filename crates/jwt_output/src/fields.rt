@@ -1,0 +1,15 @@
+//! An answer of `verify` as a list of fields, and its two printings: a line, and a JSON object.
+//!
+//! [`report_answer`] is the answer of a report; [`Fields`] is any list, which is printed either way.
+mod field;
+pub mod laws;
+mod line;
+mod list;
+mod object;
+mod verdict;
+
+pub use field::{Field, FieldName, FieldValue};
+pub use line::fields_line;
+pub use list::Fields;
+pub use object::fields_json;
+pub use verdict::{read_failed, report_answer};

@@ -1,0 +1,68 @@
+//! A field of an answer.
+ghost use Rattle.std.specs.Prelude.{◌≡◌};
+ghost use Rattle.jwt_output.specs.fields.Fields.{names};
+
+use jwt_verify::{SigState, Try};
+
+/// The name of a field.
+#[derive(Clone, Copy)]
+pub enum FieldName {
+    Verdict,
+    Fault,
+    Denial,
+    Part,
+    Scope,
+    Claim,
+    Signature,
+    Key,
+    Claims,
+    Signatures,
+    Tries,
+    Work,
+}
+
+impl FieldName {
+    /// What stands before its value in a line, and its name in JSON.
+    pub(crate) fn names(self) -> (&'static str, &'static str)
+        ensures { (result.0.now, result.1.now) ≡ names self }
+    {
+        match self {
+            FieldName::Verdict => ("", "verdict"),
+            FieldName::Fault => (" ", "fault"),
+            FieldName::Denial => (" ", "denial"),
+            FieldName::Part => (" part=", "part"),
+            FieldName::Scope => (" scope=", "scope"),
+            FieldName::Claim => (" claim=", "claim"),
+            FieldName::Signature => (" sig=", "signature"),
+            FieldName::Key => (" key=", "key"),
+            FieldName::Claims => ("", "claims"),
+            FieldName::Signatures => ("", "signatures"),
+            FieldName::Tries => (" tries=", "tries"),
+            FieldName::Work => (" work=", "work"),
+        }
+    }
+}
+
+/// The value of a field.
+#[derive(Clone, Copy)]
+pub enum FieldValue<'a> {
+    /// A word of this program's.
+    Word(&'a str),
+    /// A text of somebody else's.
+    Text(&'a str),
+    /// A whole number.
+    Count(u64),
+    /// The JSON value that octets are, which no line has.
+    Json(&'a [u8]),
+    /// What became of each signature, which no line has.
+    States(&'a [SigState]),
+    /// The tries, of which a line has the number.
+    Tries(&'a [Try]),
+}
+
+/// A field: a name with a value.
+#[derive(Clone, Copy)]
+pub struct Field<'a> {
+    pub name: FieldName,
+    pub value: FieldValue<'a>,
+}
