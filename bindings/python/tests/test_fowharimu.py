@@ -205,7 +205,8 @@ class Taking(unittest.TestCase):
         """That an accepted token isn't taken, for this reason."""
         with self.assertRaises(NotTaken) as caught:
             validator.validate(token, now)
-        self.assertEqual((caught.exception.fault, str(caught.exception)), (fault, f"the token counts once, and isn't taken: {fault}"))
+        why = "it was issued before this memory was opened" if fault == "Before" else fault
+        self.assertEqual((caught.exception.fault, str(caught.exception)), (fault, f"the token counts once, and isn't taken: {why}"))
         self.assertIsInstance(caught.exception, TokenRefused)
 
     def test_tokens_of_profiles_are_let_in_once(self) -> None:
@@ -283,6 +284,35 @@ class Taking(unittest.TestCase):
             self.refused(second, token, 900, "Seen")
         with self.assertRaises(TypeError):
             copy.copy(once)
+
+    def test_the_rows_of_memories(self) -> None:
+        once, keys, count = None, HMAC.with_suffix(".keys").read_bytes(), 0
+        for line in (TOP / "tests/once/takes.tsv").read_text().splitlines():
+            _, what, *words = line.split("\t") if not line.startswith("#") else ("", "")
+            if what == "open":
+                tokens, share, opened = map(int, words)
+                once = Once(tokens, share=share or None, opened=opened)
+            elif what == "take":
+                leeway, now, claims, answer = words
+                count += 1
+                with self.subTest(line), Validator({"algs": ["HS256"], "leeway": int(leeway)}, keys, once=once) as validator:
+                    said = "NEW"
+                    try:
+                        validator.validate(validator.issue(json.loads(claims)), int(now))
+                    except NotTaken as refusal:
+                        said = refusal.fault
+                    self.assertEqual(said.upper(), answer.replace("_", ""))
+        self.assertGreater(count, 30)
+
+    def test_a_memory_that_begins_now(self) -> None:
+        now = int(time.time())
+        with self.taking(Once(10)) as validator:
+            self.refused(validator, validator.issue({"jti": "a", "exp": now + 900}), now, "Before")
+            self.refused(validator, validator.issue({"jti": "a", "iat": now, "exp": now + 900}), now, "Before")
+            self.assertEqual(validator.validate(validator.issue({"jti": "a", "iat": now + 120, "exp": now + 900}), now + 60)["jti"], "a")
+        for words in ({"share": 0}, {"share": -1}, {"opened": -1}, {"opened": 2**64}):
+            with self.subTest(words), self.assertRaises(ValueError):
+                Once(10, **words)
 
     def test_numbers_that_are_none(self) -> None:
         for once in (0, -1, 2**64):

@@ -169,7 +169,7 @@ PROOFS = {"version": 2, "algs": ["ES256"], "typ": "dpop+jwt", "required": ["jti"
 class Uris(unittest.TestCase):
     """The URI that a proof is held against."""
 
-    def through(self, guard: Any, ask: Any) -> str:
+    def through(self, guard: Any, ask: Any, mount: str = "") -> str:
         """The URI that a guard has its validator hold a proof against."""
         held: List[bytes] = []
 
@@ -178,7 +178,7 @@ class Uris(unittest.TestCase):
                 held.append(holder.octets[2])
                 return CLAIMS
 
-        ask(guard(behind if guard is asgi.Guard else lambda *_: [], Holding(), dpop=DPoP(Proofs(PROOFS, 1), "https://api.example")))
+        ask(guard(behind if guard is asgi.Guard else lambda *_: [], Holding(), dpop=DPoP(Proofs(PROOFS, 1), "https://api.example"), mount=mount))
         return held[0].decode("latin-1")
 
     def test_of_wsgi(self) -> None:
@@ -226,13 +226,21 @@ class Uris(unittest.TestCase):
             with self.subTest(scope):
                 self.assertEqual(said(**scope), f"https://api.example{path}")
 
+    def test_what_a_proxy_has_taken_off_the_path(self) -> None:
+        asked = {"HTTP_AUTHORIZATION": "DPoP good", "HTTP_DPOP": "x", "REQUEST_METHOD": "GET", "PATH_INFO": "/a", "REQUEST_URI": "/a"}
+        self.assertEqual(self.through(wsgi.Guard, lambda guard: guard(asked, lambda *_: None), "/in"), "https://api.example/in/a")
+        for guard in (wsgi.Guard, asgi.Guard):
+            for mount in ("in", "/in/", "/"):
+                with self.subTest(guard, mount=mount), self.assertRaises(ValueError):
+                    guard(behind, Stand(), mount=mount)  # type: ignore[arg-type]
+
     def test_options_of_another_kind_are_refused(self) -> None:
         proofs, nothing = Proofs(PROOFS, 1), {}.get("option")  # type: Proofs, Any
         for options in ({"nonces": nothing}, {"only": nothing}, {"only": 0}, {"nonces": "x" * 32}):
             with self.subTest(options), self.assertRaises(TypeError):
                 DPoP(proofs, "https://api.example", **options)
         for guard in (wsgi.Guard, asgi.Guard):
-            for options in ({"refuses_bound": nothing}, {"refuses_bound": 0}, {"dpop": nothing}, {"dpop": proofs}):
+            for options in ({"refuses_bound": True}, {"dpop": nothing}, {"dpop": proofs}):
                 with self.subTest(guard, options=options), self.assertRaises(TypeError):
                     guard(behind, Stand(), **options)  # type: ignore[arg-type]
 
