@@ -10,6 +10,11 @@
 #   make dist KEY=                   writes a release into build/dist, of what ./check passed: it needs no kit where it is unpacked; signed by that key of gpg
 #   make check-dist                  installs what is in build/dist where there is no kit, and has each caller answer all cases
 #   make deb                         makes a release, and Debian packages of it (Debian: dpkg-dev, debhelper, lintian, nginx-dev)
+#   make linux-aarch64               builds the libraries for that platform into build/linux-aarch64, over what is proved; so for each platform of
+#                                    packaging/platforms but this one, which says what it needs of Debian. make linux-aarch64-program builds the program for it
+#   make wasm                        builds build/wasm/fowharimu.wasm and program.wasm, the library and the program as WebAssembly, over what is proved
+#                                    (bindings/wasm/README.md)
+#   make page                        builds build/fowharimu.html, a page that looks at tokens (bindings/page/README.md)
 #   make nginx                       builds build/nginx/ngx_http_fowharimu_module.so (Debian: nginx-dev)
 #   make nginx-install DESTDIR=      installs it where Debian's nginx looks for modules, with the endpoint for other gateways
 PREFIX ?= /usr/local
@@ -55,6 +60,62 @@ $(BUILD)/libfowharimu.so.0: $(BUILD)/libfowharimu.a bindings/c/fowharimu.map
 	$(CC) -shared -o $@ -Wl,-soname,libfowharimu.so.0 -Wl,--version-script,bindings/c/fowharimu.map -Wl,-z,relro,-z,now \
 	    -Wl,--whole-archive $(BUILD)/libfowharimu.a -Wl,--no-whole-archive
 	ln -f $@ $(BUILD)/libfowharimu.so
+
+# The same for another platform (packaging/platforms), for which the kit has a target and no heap: that is bindings/c/heap.c, and for the program os.c.
+OTHERS := $(shell packaging/platform others)
+
+$(BUILD)/%/libjwt_c.a: $(ARCHIVE)
+	mkdir -p $(@D)
+	gate/compiled.py library $$(packaging/platform $* target) $@
+
+$(BUILD)/%/jwt_tool.o: $(PROGRAM)
+	mkdir -p $(@D)
+	gate/compiled.py program $$(packaging/platform $* target) $@
+
+$(BUILD)/%/libfowharimu.a: $(BUILD)/%/libjwt_c.a bindings/c/heap.c bindings/c/fault_name.c bindings/c/version.c include/fowharimu.h Makefile
+	rm -rf $(@D)/objects $@ && mkdir -p $(@D)/objects
+	cd $(@D)/objects && ar x ../libjwt_c.a
+	for it in heap fault_name version; do \
+	    $$(packaging/platform $* cc) $(CFLAGS) $(WARNINGS) -fPIC -Iinclude -DVERSION='"$(VERSION)"' -c -o $(@D)/objects/$$it.o bindings/c/$$it.c || exit; done
+	$$(packaging/platform $* tools)ar rcs $@ $(@D)/objects/*.o
+
+$(BUILD)/%/libfowharimu.so.0: $(BUILD)/%/libfowharimu.a bindings/c/fowharimu.map
+	$$(packaging/platform $* cc) -shared -o $@ -Wl,-soname,libfowharimu.so.0 -Wl,--version-script,bindings/c/fowharimu.map -Wl,-z,relro,-z,now \
+	    -Wl,--whole-archive $< -Wl,--no-whole-archive
+	ln -f $@ $(@D)/libfowharimu.so
+
+$(BUILD)/%/fowharimu: $(BUILD)/%/jwt_tool.o bindings/c/heap.c bindings/c/os.c
+	$$(packaging/platform $* cc) $(CFLAGS) $(WARNINGS) -fPIE -static-pie -s -o $@ $< bindings/c/heap.c bindings/c/os.c
+
+$(OTHERS): %: $(BUILD)/%/libfowharimu.so.0
+
+$(OTHERS:%=%-program): %-program: $(BUILD)/%/fowharimu
+
+# WebAssembly: of the LLVM modules that the kit compiles the archive and the program of.
+WASM = $(filter-out bindings/wasm/run %.md,$(wildcard bindings/wasm/* bindings/wasm/include/*))
+
+$(BUILD)/wasm/library.bc: $(ARCHIVE)
+	mkdir -p $(@D)
+	gate/compiled.py library module $@
+
+$(BUILD)/wasm/program.bc: $(PROGRAM)
+	mkdir -p $(@D)
+	gate/compiled.py program module $@
+
+$(BUILD)/wasm/fowharimu.wasm: $(BUILD)/wasm/library.bc $(WASM) include/fowharimu.h bindings/c/fault_name.c bindings/c/version.c
+	bindings/wasm/build library $< $@ $(VERSION)
+
+$(BUILD)/wasm/program.wasm: $(BUILD)/wasm/program.bc $(WASM)
+	bindings/wasm/build program $< $@ $(VERSION)
+
+wasm: $(BUILD)/wasm/fowharimu.wasm $(BUILD)/wasm/program.wasm
+
+$(BUILD)/fowharimu.html: $(BUILD)/wasm/program.wasm bindings/node/host.js $(wildcard bindings/page/*) examples/profiles
+	bindings/page/build $< $@
+
+page: $(BUILD)/fowharimu.html
+
+.PRECIOUS: $(BUILD)/%/libjwt_c.a $(BUILD)/%/jwt_tool.o $(BUILD)/%/libfowharimu.a
 
 # The prefix may be another than that of the last call, and root's call may have written the file.
 $(BUILD)/%.pc: bindings/c/%.pc.in FORCE
@@ -153,4 +214,4 @@ clean:
 
 FORCE:
 
-.PHONY: all libraries python node java dist check-dist install deb nginx nginx-files nginx-install test fuzz clean FORCE
+.PHONY: all libraries wasm page $(OTHERS) $(OTHERS:%=%-program) python node java dist check-dist install deb nginx nginx-files nginx-install test fuzz clean FORCE

@@ -1,12 +1,18 @@
 #!/usr/bin/env python3
 """Compiles what the libraries for C and a release are linked from, over libraries that are proved.
 
-    gate/compiled.py    compiles crates/jwt_tool/out/jwt_tool.o, where it isn't there or is older than its sources
+    gate/compiled.py                           compiles crates/jwt_tool/out/jwt_tool.o, where it isn't there or is older than its sources
+    gate/compiled.py library TARGET OUT        the archive of the library for C, for another target of the kit
+    gate/compiled.py program TARGET OUT        the object of the program, for another target of the kit
+    gate/compiled.py library module OUT        the LLVM module that the kit compiles the archive of, for make wasm
+    gate/compiled.py program module OUT        the same of the program
 
+The last four write what the kit says of its proof into OUT.verdict, a line.
 Behind `rt ci` that object isn't there where the program was kept from an earlier run, and no library has a stamp, without which
-`rt run` and `rt lib` would prove all of them once more: so these are called only where the libraries are of `rt check`.
+`rt run` and `rt lib` would prove all of them once more: so these are called only where the libraries are of `rt check`. For another target, and of a
+module, nothing is written where the archive and the program are.
 """
-import pathlib, subprocess, sys
+import os, pathlib, shutil, subprocess, sys, tempfile
 
 sys.dont_write_bytecode = True
 sys.path.insert(0, str(pathlib.Path(__file__).resolve().parent))
@@ -14,6 +20,14 @@ import kit, progress
 
 TOP = pathlib.Path(__file__).resolve().parent.parent
 OBJECT = TOP / "crates/jwt_tool/out/jwt_tool.o"
+# What make builds of the two crates, by rt.
+ARCHIVE, PROGRAM = "crates/jwt_c/out/libjwt_c.a", "crates/jwt_tool/out/jwt_tool"
+CRATES = {"library": "jwt_c", "program": "jwt_tool"}
+# Stands for the kit's clang in a folder with its tools: keeps the module that it is handed, and compiles it as that does.
+KEEPING = """#!/bin/sh
+for it in "$@"; do case $it in *.bc) cp -- "$it" '{out}' ;; esac; done
+exec '{clang}' "$@"
+"""
 
 
 def made(name, command, build):
@@ -41,5 +55,62 @@ def program_object():
     return is_object_there() or made("jwt_tool", "run", lambda crate: crate.compile([], "out/jwt_tool.o")) or is_object_there()
 
 
+def is_below_there(name):
+    """Whether the libraries below a crate are proved and built, by `rt ci` or by commands of `rt`."""
+    crate = kit.crate(name)
+    return kit.is_left_below(crate) or all(it.is_built() for it in crate.below())
+
+
+def compiled(crate, flags, to, verdict):
+    """Compiles a crate, writes the line of its verdict, and gives the status."""
+    status = crate.compile(["--backend", "llvm", *flags], to)
+    crate.out.seek(0)
+    pathlib.Path(verdict).write_text("".join(it for it in crate.out if it.startswith("logic=")))
+    return status
+
+
+def for_target(name, target, out):
+    """Compiles a crate for another target of the kit than its own, and says whether that went well."""
+    return kit.built(name, lambda crate: compiled(crate, ["--target", target], out, f"{out}.verdict"))
+
+
+def module(name, out):
+    """Keeps the LLVM module that the kit compiles of a crate, and says whether that went well."""
+    with tempfile.TemporaryDirectory() as room:
+        room, tools = pathlib.Path(room), pathlib.Path(kit.folder(), "toolchain")
+        for it in ("bin", "lib"):
+            (room / it).mkdir()
+            for file in (tools / it).iterdir():
+                (room / it / file.name).symlink_to(file)
+        clang = room / "bin/clang"
+        clang.unlink()
+        clang.write_text(KEEPING.format(out=room / "module", clang=tools / "bin/clang"))
+        clang.chmod(0o755)
+
+        def build(crate):
+            call = crate.call
+            crate.call = lambda *words: call(*(str(room) if it == str(tools) else it for it in words))
+            return compiled(crate, [], str(room / "compiled"), f"{out}.verdict")
+
+        if not kit.built(name, build) or not (room / "module").exists():
+            return False
+        shutil.copy(room / "module", out)
+        return True
+
+
+def main(words):
+    """Does what the words ask for, and gives the status, or why it can't be done."""
+    if not words:
+        return 0 if program_object() else f"compiled: {OBJECT.relative_to(TOP)} can't be compiled"
+    if len(words) != 3 or words[0] not in CRATES:
+        return __doc__
+    name, (target, out) = CRATES[words[0]], words[1:]
+    if not is_below_there(name):
+        return f"compiled: the libraries below {name} aren't proved here: make proves them"
+    out = os.path.abspath(out)
+    is_done = module(name, out) if target == "module" else for_target(name, target, out)
+    return 0 if is_done else f"compiled: {name} can't be compiled for {target}"
+
+
 if __name__ == "__main__":
-    sys.exit(0 if program_object() else f"compiled: {OBJECT.relative_to(TOP)} can't be compiled")
+    sys.exit(main(sys.argv[1:]))

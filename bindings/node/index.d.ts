@@ -320,3 +320,6 @@ export class Validator {
  * in it, or it has no text of this name. Throws an Error where memory is refused.
  */
 export function textMember(document: string | Uint8Array, name: string): string | undefined;
+
+/** Which implementation runs: `native`, the addon of this system and processor, or `wasm`, the library as WebAssembly, which is slower and returns the same. */
+export const implementation: 'native' | 'wasm';

@@ -1,7 +1,7 @@
 'use strict';
 /** Validates JSON Web Tokens (RFC 7519) by a library that is proved correct, public-key signatures too. index.d.ts says what each call does. */
 
-const { types } = require('node:util');
+const { existsSync } = require('node:fs'), { join } = require('node:path'), { types } = require('node:util');
 const meanings = require('./meanings.js');
 const { isPlain, ofKind, own } = require('./options.js');
 
@@ -56,15 +56,21 @@ const ERRORS = {
 };
 for (const [name, kind] of Object.entries(ERRORS)) named(kind, name);
 
-/** The functions of addon.c: those of the file that FOWHARIMU_NODE names, or of the one in this package. */
+/**
+ * The functions of addon.c: those of the file that FOWHARIMU_NODE names, or of the addon in this package for this system and processor; where there is none, or this system
+ * can't load it, those of the library as WebAssembly, which is slower and answers the same.
+ */
 function load() {
   // (what isn't in the environment would be looked for in Object.prototype)
   const file = Object.hasOwn(process.env, 'FOWHARIMU_NODE') ? process.env.FOWHARIMU_NODE : '';
   if (file) return require(file);
-  if (process.platform !== 'linux' || process.arch !== 'x64') {
-    throw new FowharimuError(`fowharimu has a library for linux-x64, and this is ${process.platform}-${process.arch}`);
+  const addon = join(__dirname, 'prebuilds', `${process.platform}-${process.arch}`, 'fowharimu.node');
+  try {
+    if (existsSync(addon)) return require(addon);
+  } catch (error) {
+    if (error.code !== 'ERR_DLOPEN_FAILED') throw error;
   }
-  return require('./prebuilds/linux-x64/fowharimu.node');
+  return require('./wasm.js');
 }
 const native = load();
 
@@ -523,13 +529,16 @@ class Validator {
 }
 if (Symbol.dispose) for (const it of [Validator, Access, Once, Proofs]) it.prototype[Symbol.dispose] = it.prototype.close;
 
+/** Which implementation runs: 'native', the addon, or 'wasm'. */
+const { implementation = 'native' } = native;
+
 /** The text of a member of a JSON object, as the library reads it; undefined where there is none. */
 const textMember = (document, name) => native.textMember(document, name);
 
 // (each by its name: so that `import { Validator } from 'fowharimu'` finds them)
 module.exports = {
   Validator, Access, Once, Nonces, Proofs, Proof, Certificate, UNBOUND, FowharimuError, AnotherLibrary, Closed, PolicyRefused, KeysRefused, IssueRefused, AccessRefused,
-  Denied, TokenRefused, TooLong, FormRefused, CeilingReached, SignatureRefused, ClaimsRefused, NotExpected, NotHeld, NotTaken, textMember,
+  Denied, TokenRefused, TooLong, FormRefused, CeilingReached, SignatureRefused, ClaimsRefused, NotExpected, NotHeld, NotTaken, textMember, implementation,
 };
 // (for renewal.js, requests.js and remote.js alone)
 Object.defineProperty(module.exports, 'native', { value: native });

@@ -1,5 +1,5 @@
 // What a caller in TypeScript writes; it is compiled, and not run.
-import { Access, AccessRefused, AnotherLibrary, Certificate, ClaimsRefused, Denied, FormRefused, Holder, KeysRefused, NotExpected, NotHeld, NotTaken, Nonces, Once, PolicyRefused, Proof, Proofs, Report, TokenRefused, UNBOUND, Validator, textMember } from '.';
+import { Access, AccessRefused, AnotherLibrary, Certificate, ClaimsRefused, Denied, FormRefused, Holder, KeysRefused, NotExpected, NotHeld, NotTaken, Nonces, Once, PolicyRefused, Proof, Proofs, Report, TokenRefused, UNBOUND, Validator, implementation, textMember } from '.';
 import { Issuers } from './issuers';
 import { RemoteKeys } from './remote';
 
@@ -67,3 +67,6 @@ validator.issue({}, { alg: 'RS256' });
 validator.validate('a.b.c', { acess: access });
 // @ts-expect-error: an object without a rule
 validator.validate('a.b.c', { now: 7 });
+
+const which: 'native' | 'wasm' = implementation;
+void which;

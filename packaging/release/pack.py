@@ -4,8 +4,8 @@
     packaging/release/pack.py zip FOLDER OUT      a zip file
     packaging/release/pack.py tar FOLDER OUT      a tar file, compressed by gzip
     packaging/release/pack.py wheel FOLDER VERSION README OUT
-                                        a wheel of the package fowharimu in FOLDER, in the folder OUT; its tag names the newest symbol of the C
-                                        library that what is compiled in it uses, and CPython where it has the module in C
+                                        a wheel of the package fowharimu in FOLDER, in the folder OUT; its tag names the processor by the folder of its
+                                        library, the newest symbol of the C library that what is compiled in it uses, and CPython where it has the module in C
 """
 import base64
 import gzip
@@ -20,8 +20,7 @@ import zipfile
 
 # The first moment that a zip file can have.
 MOMENT = (1980, 1, 1, 0, 0, 0)
-# pip knows no tag of an older C library on x86_64.
-OLDEST = 5
+PLATFORM = pathlib.Path(__file__).resolve().parent.parent / "platform"
 
 
 def files_in(folder: pathlib.Path) -> dict[str, bytes]:
@@ -51,10 +50,11 @@ def write_tar(files: dict[str, bytes], out: pathlib.Path) -> None:
                 archive.addfile(entry, io.BytesIO(octets))
 
 
-def newest(libraries: list[pathlib.Path]) -> int:
-    """The minor number of the newest version of the C library whose symbols these libraries use."""
+def newest(libraries: list[pathlib.Path], platform: str) -> int:
+    """The minor number of the newest version of the C library whose symbols these libraries use; at least that of which pip has a tag."""
     said = [subprocess.run(["objdump", "-T", it], check=True, capture_output=True, text=True).stdout for it in libraries]
-    return max([OLDEST, *(int(it) for it in re.findall(r"GLIBC_2\.(\d+)", "".join(said)))])
+    oldest = subprocess.run([PLATFORM, platform, "glibc"], check=True, capture_output=True, text=True).stdout
+    return max([int(oldest), *(int(it) for it in re.findall(r"GLIBC_2\.(\d+)", "".join(said)))])
 
 
 def names_libraries(file: pathlib.Path) -> bool:
@@ -70,11 +70,13 @@ def row(name: str, octets: bytes) -> str:
 
 def write_wheel(folder: pathlib.Path, version: str, readme: pathlib.Path, out: pathlib.Path) -> None:
     """Writes a wheel (PEP 427): one with the module in C is for the stable interface of CPython 3.9 and later (PEP 384), another for each Python."""
-    library, module = folder / "fowharimu/libfowharimu.so.0", folder / "fowharimu/_calls.abi3.so"
+    (library,), module = folder.glob("fowharimu/*/libfowharimu.so.0"), folder / "fowharimu/_calls.abi3.so"
+    platform = library.parent.name
+    machine = platform.partition("-")[2]
     python, compiled = ("cp39-abi3", [library, module]) if module.exists() else ("py3-none", [library])
     if any(map(names_libraries, compiled)):
         sys.exit("pack: what is in a wheel has to run with each C library, and names one")
-    systems = f"manylinux_2_{newest(compiled)}_x86_64", "musllinux_1_1_x86_64"
+    systems = f"manylinux_2_{newest(compiled, platform)}_{machine}", f"musllinux_1_1_{machine}"
     tag = f"{python}-{'.'.join(systems)}"
     info = f"fowharimu-{version}.dist-info"
     files = files_in(folder)

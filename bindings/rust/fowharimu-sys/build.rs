@@ -4,9 +4,6 @@ use std::env;
 use std::path::{Path, PathBuf};
 use std::process::Command;
 
-/// The system and the processor of the libraries that this package may have.
-const SHIPPED: &str = "linux-x86_64";
-
 fn main() {
     println!("cargo:rerun-if-env-changed=FOWHARIMU_LIB_DIR");
     match (env::var("FOWHARIMU_LIB_DIR"), shipped()) {
@@ -17,7 +14,7 @@ fn main() {
     println!("cargo:rustc-link-lib=static=fowharimu");
 }
 
-/// The folder of the libraries that this package has. On another system or processor than theirs the build ends.
+/// The folder of the libraries that this package has for the target. On another system or processor than theirs the build ends.
 fn shipped() -> Option<PathBuf> {
     let of = |name| env::var(name).unwrap_or_default();
     let all = Path::new(&of("CARGO_MANIFEST_DIR")).join("lib");
@@ -29,11 +26,13 @@ fn shipped() -> Option<PathBuf> {
         of("CARGO_CFG_TARGET_OS"),
         of("CARGO_CFG_TARGET_ARCH")
     );
+    let folder = all.join(&target);
     assert!(
-        target == SHIPPED,
-        "fowharimu has a library for {SHIPPED}, and the target is {target}"
+        folder.exists(),
+        "fowharimu has no library for the target {target}: {} has those there are",
+        all.display()
     );
-    Some(all.join(SHIPPED))
+    Some(folder)
 }
 
 /// Has the libraries of a folder linked, and linked anew where they have changed.

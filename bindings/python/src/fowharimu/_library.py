@@ -221,14 +221,12 @@ def _declare(library: ctypes.CDLL) -> None:
 
 
 def _shipped() -> Optional[str]:
-    """The library in this package, where it is a wheel's. Raises OSError on another system or processor than its own."""
-    library = pathlib.Path(__file__).with_name("libfowharimu.so.0")
-    if not library.exists():
-        return None
+    """The library in this package, where it is a wheel's, in the folder of its system and processor. Raises OSError on another one."""
+    shipped = {it.parent.name: str(it) for it in pathlib.Path(__file__).parent.glob("*/libfowharimu.so.0")}
     here = f"{sys.platform}-{platform.machine()}"
-    if here != "linux-x86_64":
-        raise OSError(f"fowharimu has a library for linux-x86_64, and this is {here}")
-    return str(library)
+    if shipped and here not in shipped:
+        raise OSError(f"fowharimu has a library for {' and '.join(shipped)}, and this is {here}")
+    return shipped.get(here)
 
 
 def _installed() -> str:

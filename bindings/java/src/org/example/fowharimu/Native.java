@@ -26,7 +26,6 @@ final class Native {
     static final int WORK = 6;
     static final int TRIES = 7;
 
-    private static final String SYSTEM = "linux-x86_64";
     private static final String LIBRARY = "libfowharimu_jni.so";
     /** Why the library can't be used; null where it can. */
     private static final String PROBLEM = load();
@@ -60,13 +59,10 @@ final class Native {
 
     /** Loads the library in the jar, from a new folder that only this user can read. Linux keeps what is loaded, and the folder goes. */
     private static void loadFromJar() throws IOException {
-        String here = (System.getProperty("os.name") + "-" + System.getProperty("os.arch")).toLowerCase(java.util.Locale.ROOT);
-        if (!here.equals("linux-amd64")) {
-            throw new UnsatisfiedLinkError("the jar has a library for " + SYSTEM + ", and this is " + here);
-        }
-        try (InputStream in = Native.class.getResourceAsStream("/native/" + SYSTEM + "/" + LIBRARY)) {
+        String here = (System.getProperty("os.name") + "-" + System.getProperty("os.arch")).toLowerCase(java.util.Locale.ROOT).replace("amd64", "x86_64");
+        try (InputStream in = Native.class.getResourceAsStream("/native/" + here + "/" + LIBRARY)) {
             if (in == null) {
-                throw new UnsatisfiedLinkError("the jar has no library: name one by the property fowharimu.library");
+                throw new UnsatisfiedLinkError("the jar has a library for " + platforms() + ", and this is " + here + ": the property fowharimu.library can name another");
             }
             Path folder = Files.createTempDirectory("fowharimu");
             Path library = folder.resolve(LIBRARY);
@@ -77,6 +73,13 @@ final class Native {
                 Files.deleteIfExists(library);
                 Files.delete(folder);
             }
+        }
+    }
+
+    /** The names of the platforms for which the jar has a library. */
+    private static String platforms() throws IOException {
+        try (InputStream in = Native.class.getResourceAsStream("/native/platforms")) {
+            return in == null ? "no platform" : new String(in.readAllBytes(), java.nio.charset.StandardCharsets.US_ASCII).strip().replace("\n", " and ");
         }
     }
 
