@@ -110,7 +110,7 @@ $(BUILD)/wasm/program.wasm: $(BUILD)/wasm/program.bc $(WASM)
 
 wasm: $(BUILD)/wasm/fowharimu.wasm $(BUILD)/wasm/program.wasm
 
-$(BUILD)/fowharimu.html: $(BUILD)/wasm/program.wasm bindings/node/host.js $(wildcard bindings/page/*) examples/profiles
+$(BUILD)/fowharimu.html: $(BUILD)/wasm/program.wasm bindings/node/host.js $(wildcard bindings/page/*) docs/COMMAND.md $(wildcard examples/profiles/*/policy.json)
 	bindings/page/build $< $@
 
 page: $(BUILD)/fowharimu.html

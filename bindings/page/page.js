@@ -135,6 +135,12 @@ function policyOf(header, payload) {
   return JSON.stringify({ ...policy, max_signatures: 1, max_calls: 2 }, null, 1).replace(/\[\n\s+/g, '[').replace(/\n\s+\]/g, ']').replace(/",\n\s+"(?=[^"]*"[\],])(?![^"]*":)/g, '", "').replace(/^ /gm, '  ');
 }
 
+/** Whether a policy may name an algorithm: the program knows all that it verifies. */
+function isVerified(alg) {
+  const { out } = jwt(['policy', '--json', '--policy', 'policy'], { files: { policy: JSON.stringify({ version: 2, algs: [alg] }) } });
+  return out.startsWith('{"members":');
+}
+
 /** What is odd in a token: [how bad, what, why]. These are hints, and decide nothing. */
 function oddities(text, it, now, set) {
   const list = [], odd = (what, why) => list.push(['odd', what, why]), bad = (what, why) => list.push(['bad', what, why]);
@@ -142,7 +148,7 @@ function oddities(text, it, now, set) {
   for (const { protected: header, header: other } of it.signatures) {
     const all = { ...other, ...header }, alg = all.alg;
     if (typeof alg === 'string' && alg.toLowerCase() === 'none') bad('alg: none', 'says that nobody signed it. No policy can allow that.');
-    else if (typeof alg === 'string' && !/^(HS|RS|PS|ES)(256|384|512)$|^EdDSA$/.test(alg)) odd(`alg: ${shown(alg)}`, 'is none that is verified here.');
+    else if (typeof alg === 'string' && !isVerified(alg)) odd(`alg: ${shown(alg)}`, 'is none that is verified here.');
     for (const name of ['jku', 'x5u']) if (all[name] !== undefined) bad(name, 'tells the reader where to fetch a key. Whoever forges a token names a place of their own.');
     for (const name of ['jwk', 'x5c']) if (all[name] !== undefined) odd(name, 'brings a key along. It proves nothing: anybody can bring their own.');
     if (all.crit !== undefined) odd('crit', 'names what a reader has to understand, or else to refuse.');
@@ -199,7 +205,7 @@ function renderVerdict(kind, title, ...lines) {
 function renderAdvice(policyText, set) {
   const advice = adviceOn(policyText, set);
   fill('advice', advice.length === 0 ? [] : [el('h3', {}, 'Advice on the policy and the keys'), el('ul', { class: 'odd' }, advice.map(({ name, key, entry }) =>
-    el('li', {}, el('b', {}, name), key !== undefined ? `, key ${key}. ` : entry !== undefined ? `, entry ${entry}. ` : ': ', ADVICE[name] ?? '')))]);
+    el('li', {}, el('b', {}, name), key !== undefined ? `, key ${key}: ` : entry !== undefined ? `, entry ${entry}: ` : ': ', withCode(ADVICE[name] ?? ''))))]);
 }
 
 function colour(text) {
