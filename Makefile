@@ -61,16 +61,19 @@ $(BUILD)/libfowharimu.so.0: $(BUILD)/libfowharimu.a bindings/c/fowharimu.map
 	    -Wl,--whole-archive $(BUILD)/libfowharimu.a -Wl,--no-whole-archive
 	ln -f $@ $(BUILD)/libfowharimu.so
 
-# The same for another platform (packaging/platforms), for which the kit has a target and no heap: that is bindings/c/heap.c, and for the program os.c.
+# The same for another platform (packaging/platforms), for which the kit has a target and no heap: that is bindings/c/heap.c, and for the program os.c. It is compiled
+# over what was proved for the archive and the program here, which have to stand first.
 OTHERS := $(shell packaging/platform others)
 
-$(BUILD)/%/libjwt_c.a: $(ARCHIVE)
-	mkdir -p $(@D)
+$(BUILD)/%/libjwt_c.a: $(CRATES) | $(ARCHIVE)
+	mkdir -p $(@D) && touch $(@D)/archive.begun
 	gate/compiled.py library $$(packaging/platform $* target) $@
+	touch -r $(@D)/archive.begun $@
 
-$(BUILD)/%/jwt_tool.o: $(PROGRAM)
-	mkdir -p $(@D)
+$(BUILD)/%/jwt_tool.o: $(CRATES) | $(PROGRAM)
+	mkdir -p $(@D) && touch $(@D)/program.begun
 	gate/compiled.py program $$(packaging/platform $* target) $@
+	touch -r $(@D)/program.begun $@
 
 $(BUILD)/%/libfowharimu.a: $(BUILD)/%/libjwt_c.a bindings/c/heap.c bindings/c/fault_name.c bindings/c/version.c include/fowharimu.h Makefile
 	rm -rf $(@D)/objects $@ && mkdir -p $(@D)/objects
@@ -94,13 +97,15 @@ $(OTHERS:%=%-program): %-program: $(BUILD)/%/fowharimu
 # WebAssembly: of the LLVM modules that the kit compiles the archive and the program of.
 WASM = $(filter-out bindings/wasm/run %.md,$(wildcard bindings/wasm/* bindings/wasm/include/*))
 
-$(BUILD)/wasm/library.bc: $(ARCHIVE)
-	mkdir -p $(@D)
+$(BUILD)/wasm/library.bc: $(CRATES) | $(ARCHIVE)
+	mkdir -p $(@D) && touch $(@D)/archive.begun
 	gate/compiled.py library module $@
+	touch -r $(@D)/archive.begun $@
 
-$(BUILD)/wasm/program.bc: $(PROGRAM)
-	mkdir -p $(@D)
+$(BUILD)/wasm/program.bc: $(CRATES) | $(PROGRAM)
+	mkdir -p $(@D) && touch $(@D)/program.begun
 	gate/compiled.py program module $@
+	touch -r $(@D)/program.begun $@
 
 $(BUILD)/wasm/fowharimu.wasm: $(BUILD)/wasm/library.bc $(WASM) include/fowharimu.h bindings/c/fault_name.c bindings/c/version.c
 	bindings/wasm/build library $< $@ $(VERSION)
