@@ -599,7 +599,7 @@ void fow_once_close(fow_once *once);
  *     if (fow_possession_open(&possession, policy, policy_len, &fault) != FOW_OK) { ... }
  *     ... fow_judge accepts the access token; then, with the value of the request's only header `DPoP`:
  *     if (fow_possession_judge(&possession, &validator, proof, proof_len, method, method_len, uri, uri_len, nonce, nonce_len, token, token_len, now, &fault) != FOW_OK) { ... }
- *     if (fow_shown(&validator, &possession, NULL, 0, &fault) != FOW_OK) { ... }
+ *     if (fow_shown(&validator, &possession, NULL, 0, &ways, &fault) != FOW_OK) { ... }
  *     if (fow_possession_take(&possession, &once, now, &taken) != FOW_OK) { ... }
  *     fow_possession_close(&possession);
  *

@@ -202,6 +202,9 @@ function callsOver(instance) {
     out[4] = u32(at + 32); out[5] = u32(at + 36); out[6] = u64(at); out[7] = u64(at + 8);
   };
   const reportRoom = BigInt(room(40));
+  /** A fow_possession that holds nothing. */
+  const NO_PROOF = BigInt(room(16));
+  bytes.fill(0, Number(NO_PROOF), Number(NO_PROOF) + 16);
 
   /** A text that a call writes of a validator, in so much room. */
   const told = (size, call) => writing(size, call, text);
@@ -321,7 +324,7 @@ function callsOver(instance) {
         (at, status) => said(status, u32(at)));
     }),
 
-    openOnce: (tokens) => opened(HeldOnce, it.fow_once_close, (at) => it.fow_once_open(at, BigInt(tokens))),
+    openOnce: (tokens, share, at_) => opened(HeldOnce, it.fow_once_close, (at) => it.fow_once_open(at, BigInt(tokens), BigInt(share), moment(at_))),
     closeOnce: (once) => closeState(onceOf(once).state),
     taken: (once, held, now) => struct(4, (at) => it.fow_once_take(onceOf(once).at, validatorOf(held).at, moment(now), at), (at, status) => taken(status, 'token', at)),
 
@@ -345,15 +348,11 @@ function callsOver(instance) {
       throw new Error('no policy for proofs is open');
     }),
     proofTaken: (once, proofs, now) => struct(4, (at) => it.fow_possession_take(proofsOf(proofs).at, onceOf(once).at, moment(now), at), (at, status) => taken(status, 'proof', at)),
-    bound: (held) => struct(4, (at) => it.fow_bound(validatorOf(held).at, at), (at, status) => {
-      if (status === OK) return u32(at);
+    shown: (held, proofs, der) => with_([der], (d, n) => struct(8, (at) =>
+      it.fow_shown(validatorOf(held).at, proofs === null ? NO_PROOF : proofsOf(proofs).at, d, n, at, at + 4n), (at, status) => {
+      if (status === OK || status === REFUSED) return u32(status === OK ? at : at + 4);
       throw status === OUT_OF_MEMORY ? lackMemory() : new Error('no token is accepted');
-    }),
-    certificateHolds: (held, der) => with_([der], (d, n) => {
-      const status = it.fow_certificate_holds(validatorOf(held).at, d, n);
-      if (status === OK || status === NOT_EXPECTED) return status === OK;
-      throw status === OUT_OF_MEMORY ? lackMemory() : new Error('no token is accepted');
-    }),
+    })),
 
     credentials: (schemes, value) => with_([latin(value)], (v, n) => struct(24, (at) => it.fow_credentials(small(schemes), v, n, at, at + 8n, at + 16n),
       (at, status) => [status, u32(at), u64(at + 8), u64(at + 16)])),
@@ -371,6 +370,7 @@ function callsOver(instance) {
         (status, at, len) => (status === OK ? latinOf(at, len) : undefined)));
     },
     proofOutcome: (status, fault) => it.fow_proof_outcome(small(status), small(fault)),
+    takenOutcome: (ofProof, status, taken_) => it.fow_taken_outcome(small(ofProof), small(status), small(taken_)),
 
     renewalBegin: (state, ...times) => renewal(state, (at) => void it.fow_renewal_begin(at, ...times.map(whole))),
     renewalAsk: (state, now, asker, keys) => renewal(state, (at) => struct(40, (answer) => it.fow_renewal_ask(at, whole(now), whole(asker), whole(keys), answer),
