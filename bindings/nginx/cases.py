@@ -4,6 +4,7 @@ A request carries a token in a header, for `jwt_token $http_token`, and where it
 header Authorization too; there each other one is refused as Form. It is one without NUL, line feeds and carriage returns, and without a space at
 either end. A policy, a key set or an access rule that is refused has no location. The moment is the same for all, that of most cases, by moment.c, which is preloaded.
 """
+import base64
 import http.client
 import json
 import os
@@ -76,9 +77,20 @@ def shown_issuer(claims: str) -> str:
     return value if is_kept else ""
 
 
+def is_bound(token: bytes) -> bool:
+    """Whether the claims of a compact token say whose it is: nobody shows that here, so the module takes it from nobody."""
+    try:
+        payload = token.split(b".")[1]
+        return "cnf" in json.loads(base64.urlsafe_b64decode(payload + b"=" * (-len(payload) % 4)))
+    except (IndexError, ValueError, TypeError):
+        return False
+
+
 def expected(case: Asked) -> dict[str, str]:
     """The headers that the stored answer comes to. Of claims whose digest alone is stored the issuer isn't compared."""
     verdict, fault, *_, work, states, tries, claims = case.answer
+    if verdict == "accepted" and is_bound(case.token):
+        verdict, fault = "refused", "token.Bound"
     found = {
         "x-verdict": "forbidden" if verdict == "denied" else verdict,
         "x-fault": fault.partition(".")[2],

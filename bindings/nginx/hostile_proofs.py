@@ -1,7 +1,7 @@
 """The proofs of possession of tests/possession that a request can carry, asked of nginx: what the module says of each has to be the stored answer.
 
 Each is asked at its own moment, by moment.c, which is preloaded. A request carries no proof with a space at an end or a control character, no nonce but one by time, no URI without
-a path, with a fragment or with a percent sign that nginx refuses of itself, and no method but one of capital letters; a row without an access token, or beside one that isn't accepted,
+a path, with a fragment, with a percent sign that nginx refuses of itself or with a character out of ASCII, and no method but one of capital letters; a row without an access token, or beside one that isn't accepted,
 is none of a request to nginx.
 """
 import http.client
@@ -41,7 +41,7 @@ def read_rows() -> tuple[dict, list[Asked], int]:
 def asked_of(row: dict) -> Asked | None:
     """What is asked of a row; None where no request carries it."""
     uri, proof = URI.fullmatch(row["uri"]), row["proof"]
-    is_carried = uri and proof == proof.strip() and proof.isprintable() and proof.isascii() and re.fullmatch("[A-Z]+", row["method"])
+    is_carried = uri and row["uri"].isascii() and proof == proof.strip() and proof.isprintable() and proof.isascii() and re.fullmatch("[A-Z]+", row["method"])
     # (nginx doesn't begin at the moment 0)
     if not is_carried or row["now"] == 0 or row["nonce"] is not None or not row["token"] or row["token"].count(".") != 2 or row["name"] in NOT_ACCEPTED:
         return None
@@ -69,8 +69,9 @@ def differences(nginx: Nginx, rows: list[Asked], origins: list[str]) -> Iterator
     connection = http.client.HTTPConnection("127.0.0.1", nginx.port, timeout=20)
     for row in rows:
         said = answer(connection, row, origins)
-        wanted = (401, "refused", row.fault) if row.fault else (200, "accepted", "")
-        if said != wanted:
+        wanted = (400 if row.fault == "PathForm" else 401, "refused", row.fault) if row.fault else (200, "accepted", "")
+        # (nginx refuses of itself a path that climbs out of the root)
+        if said != wanted and (row.fault, said) != ("PathForm", (400, "", "")):
             yield f"{row.name}: {said}, and not {wanted}"
     connection.close()
 
