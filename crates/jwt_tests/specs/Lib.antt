@@ -1,2 +1,0 @@
--- the meanings of the verifiers of single tests
-pub mod Verifiers

@@ -45,49 +45,18 @@ fn a_url_has_its_parts(rt: HostRuntime) -> Result<(), Fail> {
     Ok(())
 }
 
-/// What is no URL.
-static NO_URLS: [&str; 36] = [
-    "",
-    "keys",
-    "/keys",
-    "//a/keys",
-    "https:",
-    "https:/a/keys",
-    "https://",
-    "https:///keys",
-    "https://?x",
-    "file:///etc/passwd",
-    "ftp://a/keys",
-    "httpss://a/keys",
-    " https://a/keys",
-    "https://a/keys ",
-    "https://u@a/keys",
-    "https://u:p@a/keys",
-    "https://@a/keys",
-    "https://a:/keys",
-    "https://a:x/keys",
-    "https://a:65536/keys",
-    "https://a:99999999999999999999/keys",
-    "https://a:-1/keys",
-    "https://a:443:443/keys",
-    "https://a\\b/keys",
-    "https://a/k\\eys",
-    "https://a/keys#x",
-    "https://a#x",
-    "https://a/k eys",
-    "https://a/k\neys",
-    "https://a/k\u{e9}ys",
-    "https://\u{e9}/keys",
-    "https://a/%",
-    "https://a/%4",
-    "https://a/%zz",
-    "https://[::1/keys",
-    "https://[]/keys",
-];
+/// What is no URL, with a bar between two.
+const NO_URLS: &str = "|keys|/keys|//a/keys|https:|https:/a/keys|https://|https:///keys|https://?x|\
+file:///etc/passwd|ftp://a/keys|httpss://a/keys| https://a/keys|https://a/keys |\
+https://u@a/keys|https://u:p@a/keys|https://@a/keys|https://a:/keys|https://a:x/keys|\
+https://a:65536/keys|https://a:99999999999999999999/keys|https://a:-1/keys|\
+https://a:443:443/keys|https://a\\b/keys|https://a/k\\eys|https://a/keys#x|https://a#x|\
+https://a/k eys|https://a/k\neys|https://a/k\u{e9}ys|https://\u{e9}/keys|https://a/%|\
+https://a/%4|https://a/%zz|https://[::1/keys|https://[]/keys";
 
 #[test]
 fn what_is_no_url_is_refused(rt: HostRuntime) {
-    for url in &NO_URLS {
+    for url in NO_URLS.split('|') {
         assert!(rt; url_of(url.as_bytes(), true).is_none(), "{url}");
     }
 }
