@@ -29,11 +29,10 @@ use Rattle.jwt_text.specs.Intake.{TakesAtMost}
 use Rattle.jwt_command.specs.Issue.{issue_answer, issue_under}
 use Rattle.jwt_issue.specs.Options.{OptionParts}
 use Rattle.jwt_output.specs.verdicts.Denied.{Demands}
-use Rattle.jwt_output.specs.verdicts.VerdictsJson.{verdict_json, token_json, payload_of}
 use Rattle.jwt_output.specs.verdicts.Printer.{Printer, unless_read_failed}
 use Rattle.jwt_command.specs.Verify.{keys_answer, payload_in, under_keys, under_policy, verify_answer}
 use Rattle.jwt_output.specs.Refused.{keys_refused}
-use Rattle.jwt_output.specs.verdicts.Verdicts.{moment_of, token_answer, verify_line}
+use Rattle.jwt_output.specs.verdicts.Verdicts.{moment_of, payload_of, token_answer, token_json, verdict_json, verify_line}
 use Rattle.jwt_output.specs.Printed.{Answer}
 use Rattle.jwt_command.specs.Stops.{behind_keys, behind_policy, keys_most, token_most, verify_most}
 
@@ -123,11 +122,12 @@ rule_refused tell view r q rule fault last (Some x) failed works is line =
 
 -- the same of a report on octets in hand
 pub answered_in_hand : (asked : Demands) (q : Terms) (x : List ℕ) → TellsReports → (r : Report) (octets : ℕ) → IsReport q x q.policy.run.work r
-    → octets ≡ work r.tries.items → FoundMemory r.verdict → (a : Answer) → a ≡ verify_line asked (moment_of q) r.verdict (length r.tries.items) octets → a ≡ token_answer asked q x
+    → octets ≡ work r.tries.items → FoundMemory r.verdict → (a : Answer) → a ≡ verify_line asked (moment_of q) r.verdict r.states.items r.tries.items octets → a ≡ token_answer asked q x
 answered_in_hand asked q x tells r octets report counted found a line =
     let t = tells q x q.policy.run.work r report found in
-    line ∙ ap (λ n. verify_line asked (moment_of q) r.verdict (length r.tries.items) n) counted ∙ ap (λ v. verify_line asked (moment_of q) v (length r.tries.items) (work r.tries.items)) t.0
-    ∙ ap (λ es. verify_line asked (moment_of q) (verdict_of q x q.policy.run.work) (length es) (work es)) t.1
+    line ∙ ap (λ n. verify_line asked (moment_of q) r.verdict r.states.items r.tries.items n) counted ∙ ap (λ v. verify_line asked (moment_of q) v r.states.items r.tries.items (work r.tries.items)) t.0
+    ∙ ap (λ sts. verify_line asked (moment_of q) (verdict_of q x q.policy.run.work) sts r.tries.items (work r.tries.items)) t.2
+    ∙ ap (λ es. verify_line asked (moment_of q) (verdict_of q x q.policy.run.work) (states (table q x) q.policy.run.work q.policy.max_calls) es (work es)) t.1
 
 -- the same in JSON
 -- the payload of the token that was read for a verdict is that of the token that the octets are

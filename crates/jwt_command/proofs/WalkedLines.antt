@@ -6,9 +6,8 @@ use Rattle.std.proofs.lemmas.Bool.Decides.{nat_tests}
 use Rattle.std.specs.Io.KnownBytes.{Consumes, IsAtEnd, Keeps, prepend_known}
 use Rattle.jwt_command.specs.Lines.{lines, onto_first}
 use Rattle.jwt_output.specs.Printed.{Answer}
-use Rattle.jwt_output.specs.verdicts.VerdictsJson.{payload_of, token_json, verdict_json}
 use Rattle.jwt_output.specs.verdicts.Printer.{printer_for}
-use Rattle.jwt_output.specs.verdicts.Verdicts.{moment_of, paid_tries, token_answer}
+use Rattle.jwt_output.specs.verdicts.Verdicts.{moment_of, paid_tries, payload_of, token_answer, token_json, verdict_json}
 use Rattle.jwt_access.specs.Rules.{Rule}
 use Rattle.jwt_output.specs.verdicts.Denied.{Demands}
 use Rattle.jwt_settings.specs.Seen.{Expectation}

@@ -13,7 +13,7 @@ use Rattle.json.specs.Value.{value_view}
 use Rattle.json.specs.declared.value.Value.{Null, the_lemmas}
 use Rattle.std.specs.Global.{Global}
 use Rattle.json.specs.Tree.{HasNumbers, ItemsHaveNumbers, MembersHaveNumbers, items_tokens, json_tokens, members_tokens}
-use Rattle.jwt_output.specs.Json.{Named, items_in, json_line, list, members_in, object_of_members, json_value}
+use Rattle.jwt_output.specs.Json.{Named, items_in, json_line, members_in, object_of_members, json_value}
 use Rattle.jwt_output.specs.JsonTokens.{named_tokens}
 use Rattle.jwt_output.specs.Printed.{Answer}
 
@@ -51,15 +51,6 @@ object_put ms old start done new s d n =
     ∙ append_assoc (old ++ Token.begin_object ∷ []) (named_tokens ms) (Token.end_object ∷ [])
     ∙ append_assoc old (Token.begin_object ∷ []) (named_tokens ms ++ Token.end_object ∷ [])
     ∙ ap (λ ts. old ++ Token.begin_object ∷ ts) (sym (members_written ms))
-
-pub list_put : {A : Type 0} (f : A → Json) (xs : List A) (name : List ℕ) (old start done new : List Token) → start ≡ old ++ Token.key name ∷ Token.begin_array ∷ []
-    → done ≡ start ++ flat_map (λ x. json_tokens (f x)) xs → new ≡ done ++ Token.end_array ∷ [] → new ≡ old ++ named_tokens (list name (map f xs) ∷ [])
-list_put f xs name old start done new s d n =
-    let each = flat_map (λ x. json_tokens (f x)) xs in
-    n ∙ ap (λ ts. ts ++ Token.end_array ∷ []) (d ∙ ap (λ ts. ts ++ each) s)
-    ∙ append_assoc (old ++ Token.key name ∷ Token.begin_array ∷ []) each (Token.end_array ∷ [])
-    ∙ append_assoc old (Token.key name ∷ Token.begin_array ∷ []) (each ++ Token.end_array ∷ [])
-    ∙ ap (λ ts. old ++ Token.key name ∷ Token.begin_array ∷ ts) (sym (items_written f xs) ∙ sym (append-nil (items_tokens (items_in (map f xs)))))
 
 -- the line of an object whose members were written
 pub line_put : (ms : List Named) (status : ℕ) (start done : List Token) → start ≡ Token.begin_object ∷ [] → done ≡ start ++ named_tokens ms → (a : Answer)

@@ -1,5 +1,4 @@
 -- ---- For fields.rt
-pub mod Same
 pub mod Arrays
 -- ---- For nearest.rt
 pub mod NearLemmas

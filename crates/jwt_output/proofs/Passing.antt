@@ -1,5 +1,5 @@
 -- Whose answer has the status 0.
-use Rattle.std.proofs.Common.{◌≡◌, ◌↔◌, ap₂, ℕ, List, Option, None, Some, refl, arith}
+use Rattle.std.proofs.Common.{◌≡◌, ◌↔◌, ap₂, ℕ, List, [], Option, None, Some, refl, arith}
 use Rattle.std.specs.Option.{option_or}
 use Rattle.serde_json.specs.Data.{Members}
 use Rattle.jwt_access.specs.Denials.{denial_of}
@@ -16,8 +16,11 @@ use Rattle.jwt_verify.specs.declared.report.Verdict.{Verdict}
 use Rattle.jwt_verify.specs.declared.report.Verdict.TheVariants.{Accepted, Refused}
 use Rattle.jwt_output.specs.verdicts.Denied.{Demands, IsPassed, MeetExpected, MeetRule, expected_lacking, lacking, rule_lacking}
 use Rattle.jwt_output.proofs.Expecting.{AreSpelled, expected_lacks_none}
-use Rattle.jwt_output.specs.verdicts.VerdictsJson.{accepted_status, verdict_json}
-use Rattle.jwt_output.specs.verdicts.Verdicts.{fault_line, unless_lacking, verify_line}
+use Rattle.jwt_output.specs.fields.Fields.{Field}
+use Rattle.jwt_output.specs.fields.Verdicts.{answer, evidence, lacks_of, refusal, status_of}
+use Rattle.jwt_output.specs.verdicts.Verdicts.{verdict_json, verify_line}
+use Rattle.jwt_settings.specs.declared.printing.Printing.{Printing}
+use Rattle.jwt_settings.specs.declared.printing.Printing.TheVariants.{Json, Lines}
 
 abbrev pub AreSaid : Type 0
 AreSaid = (rule : Rule) (at : Moment) (ms : Members) → (denial_of rule at ms ≡ None) ↔ IsGranted rule at ms
@@ -39,47 +42,44 @@ lacks_none said spelled demands at ms =
       λ h. ap₂ option_or (rule.1 h.0) (expected.1 h.1),
     )
 
--- ---- in lines
+-- ---- in lines and in JSON
 
-line_status : (o : Option Denial) (i j tries work : ℕ) → ((unless_lacking o i j tries work).status ≡ 0) ↔ (o ≡ None)
-line_status None i j tries work = (λ e. refl, λ e. refl)
-line_status (Some d) i j tries work = (λ e. absurd (omega (arith, e)), λ e. absurd cc)
+status_none : (o : Option Denial) → (status_of o ≡ 0) ↔ (o ≡ None)
+status_none None = (λ e. refl, λ e. refl)
+status_none (Some d) = (λ e. absurd (omega (arith, e)), λ e. absurd cc)
 
-line_refused : (fault : Fault) (tries work : ℕ) → (fault_line fault tries work).status ≡ 0 → ⊥
-line_refused OutOfMemory tries work e = omega (arith, e)
-line_refused VerifierMemory tries work e = omega (arith, e)
-line_refused (Text Read) tries work e = omega (arith, e)
-line_refused (Text TooLong) tries work e = omega (arith, e)
-line_refused (Form f) tries work e = omega (arith, e)
-line_refused (WorkExceeded i j) tries work e = omega (arith, e)
-line_refused (CallsExceeded i j) tries work e = omega (arith, e)
-line_refused (Signature i f) tries work e = omega (arith, e)
-line_refused (Claim f) tries work e = omega (arith, e)
+refused : (printing : Printing) (fault : Fault) (ran : List Field) → (refusal printing fault ran).status ≡ 0 → ⊥
+refused Lines OutOfMemory ran e = omega (arith, e)
+refused Lines VerifierMemory ran e = omega (arith, e)
+refused Lines (Text Read) ran e = omega (arith, e)
+refused Lines (Text TooLong) ran e = omega (arith, e)
+refused Lines (Form f) ran e = omega (arith, e)
+refused Lines (WorkExceeded i j) ran e = omega (arith, e)
+refused Lines (CallsExceeded i j) ran e = omega (arith, e)
+refused Lines (Signature i f) ran e = omega (arith, e)
+refused Lines (Claim f) ran e = omega (arith, e)
+refused Json OutOfMemory ran e = omega (arith, e)
+refused Json VerifierMemory ran e = omega (arith, e)
+refused Json (Text Read) ran e = omega (arith, e)
+refused Json (Text TooLong) ran e = omega (arith, e)
+refused Json (Form f) ran e = omega (arith, e)
+refused Json (WorkExceeded i j) ran e = omega (arith, e)
+refused Json (CallsExceeded i j) ran e = omega (arith, e)
+refused Json (Signature i f) ran e = omega (arith, e)
+refused Json (Claim f) ran e = omega (arith, e)
 
-pub lines_pass : AreSaid → AreSpelled → (demands : Demands) (at : Moment) (verdict : Verdict) (tries work : ℕ) → ((verify_line demands at verdict tries work).status ≡ 0) ↔ IsPassed demands at verdict
-lines_pass said spelled demands at (Accepted i j claims) tries work =
-    (λ e. (lacks_none said spelled demands at claims).0 ((line_status (lacking demands at claims) i j tries work).0 e), λ h. (line_status (lacking demands at claims) i j tries work).1 ((lacks_none said spelled demands at claims).1 h))
-lines_pass said spelled demands at (Refused fault) tries work = (line_refused fault tries work, λ h. absurd h)
+passes : AreSaid → AreSpelled → (printing : Printing) (demands : Demands) (at : Moment) (verdict : Verdict) (payload : List ℕ) (ran : List Field)
+    → ((answer printing (lacks_of demands at verdict) verdict payload ran).status ≡ 0) ↔ IsPassed demands at verdict
+passes said spelled Lines demands at (Accepted i j claims) payload ran =
+    (λ e. (lacks_none said spelled demands at claims).0 ((status_none (lacking demands at claims)).0 e), λ h. (status_none (lacking demands at claims)).1 ((lacks_none said spelled demands at claims).1 h))
+passes said spelled Json demands at (Accepted i j claims) payload ran =
+    (λ e. (lacks_none said spelled demands at claims).0 ((status_none (lacking demands at claims)).0 e), λ h. (status_none (lacking demands at claims)).1 ((lacks_none said spelled demands at claims).1 h))
+passes said spelled printing demands at (Refused fault) payload ran = (refused printing fault ran, λ h. absurd h)
 
--- ---- in JSON
-
-json_status : (o : Option Denial) → (accepted_status o ≡ 0) ↔ (o ≡ None)
-json_status None = (λ e. refl, λ e. refl)
-json_status (Some d) = (λ e. absurd (omega (arith, e)), λ e. absurd cc)
-
-json_refused : (demands : Demands) (at : Moment) (fault : Fault) (payload : List ℕ) (states : List SigState) (tries : List Try) (work : ℕ) → (verdict_json demands at (Refused fault) payload states tries work).status ≡ 0 → ⊥
-json_refused demands at OutOfMemory payload states tries work e = omega (arith, e)
-json_refused demands at VerifierMemory payload states tries work e = omega (arith, e)
-json_refused demands at (Text Read) payload states tries work e = omega (arith, e)
-json_refused demands at (Text TooLong) payload states tries work e = omega (arith, e)
-json_refused demands at (Form f) payload states tries work e = omega (arith, e)
-json_refused demands at (WorkExceeded i j) payload states tries work e = omega (arith, e)
-json_refused demands at (CallsExceeded i j) payload states tries work e = omega (arith, e)
-json_refused demands at (Signature i f) payload states tries work e = omega (arith, e)
-json_refused demands at (Claim f) payload states tries work e = omega (arith, e)
+pub lines_pass : AreSaid → AreSpelled → (demands : Demands) (at : Moment) (verdict : Verdict) (states : List SigState) (tries : List Try) (work : ℕ)
+    → ((verify_line demands at verdict states tries work).status ≡ 0) ↔ IsPassed demands at verdict
+lines_pass said spelled demands at verdict states tries work = passes said spelled Lines demands at verdict [] (evidence states tries work)
 
 pub json_passes : AreSaid → AreSpelled → (demands : Demands) (at : Moment) (verdict : Verdict) (payload : List ℕ) (states : List SigState) (tries : List Try) (work : ℕ)
     → ((verdict_json demands at verdict payload states tries work).status ≡ 0) ↔ IsPassed demands at verdict
-json_passes said spelled demands at (Accepted i j claims) payload states tries work =
-    (λ e. (lacks_none said spelled demands at claims).0 ((json_status (lacking demands at claims)).0 e), λ h. (json_status (lacking demands at claims)).1 ((lacks_none said spelled demands at claims).1 h))
-json_passes said spelled demands at (Refused fault) payload states tries work = (json_refused demands at fault payload states tries work, λ h. absurd h)
+json_passes said spelled demands at verdict payload states tries work = passes said spelled Json demands at verdict payload (evidence states tries work)

@@ -12,11 +12,9 @@ use Rattle.jwt_policy.specs.declared.policy_fault.PolicyFault.{PolicyFault}
 use Rattle.jwt_policy.specs.declared.policy_fault.PolicyFault.TheVariants as policy
 use Rattle.jwt_policy.specs.declared.claim_fault.ClaimFault.{ClaimFault}
 use Rattle.jwt_policy.specs.declared.claim_fault.ClaimFault.TheVariants as claim
-use Rattle.jwt_access.specs.FaultNames.{access_fault_name, denial_name}
+use Rattle.jwt_access.specs.FaultNames.{access_fault_name}
 use Rattle.jwt_access.specs.declared.access_fault.AccessFault.{AccessFault}
 use Rattle.jwt_access.specs.declared.access_fault.AccessFault.TheVariants as access
-use Rattle.jwt_access.specs.declared.denial.Denial.{Denial}
-use Rattle.jwt_access.specs.declared.denial.Denial.TheVariants as lack
 use Rattle.jwt_issue.specs.FaultNames.{issue_fault_name}
 use Rattle.jwt_issue.specs.declared.fault.IssueFault.{IssueFault}
 use Rattle.jwt_issue.specs.declared.fault.IssueFault.TheVariants as issue
@@ -56,22 +54,6 @@ access_fault_place _ = []
 
 abbrev pub access_fault_parts : AccessFault → List (List ℕ)
 access_fault_parts f = access_fault_name f ∷ access_fault_place f
-
--- what claims lack of an access rule: a scope, or a claim
-abbrev pub denial_place : Denial → List (List ℕ)
-denial_place (lack.ScopeMissing scope) = codes " scope=" ∷ quoted_text scope ∷ []
-denial_place (lack.ClaimMissing name) = codes " claim=" ∷ quoted_text name ∷ []
-denial_place (lack.ClaimNotAllowed name) = codes " claim=" ∷ quoted_text name ∷ []
-denial_place (lack.ClaimPresent name) = codes " claim=" ∷ quoted_text name ∷ []
-denial_place (lack.ClaimHasOther name) = codes " claim=" ∷ quoted_text name ∷ []
-denial_place (lack.ClaimNotObject name) = codes " claim=" ∷ quoted_text name ∷ []
-denial_place (lack.ClaimNotDate name) = codes " claim=" ∷ quoted_text name ∷ []
-denial_place (lack.ClaimLater name) = codes " claim=" ∷ quoted_text name ∷ []
-denial_place (lack.ClaimTooOld name) = codes " claim=" ∷ quoted_text name ∷ []
-denial_place (lack.ClaimNotAscii name) = codes " claim=" ∷ quoted_text name ∷ []
-
-abbrev pub denial_parts : Denial → List (List ℕ)
-denial_parts d = denial_name d ∷ denial_place d
 
 abbrev pub claim_fault_place : ClaimFault → List (List ℕ)
 claim_fault_place (claim.ClaimKind c) = codes " claim=" ∷ quoted_text (claim_name c) ∷ []

@@ -2,7 +2,7 @@
 use Rattle.std.specs.Prelude.{ℕ, List, [], ◌∷◌, ◌++◌, unwrap_or, if◌then◌else◌, Option, Some, None, codes}
 use Rattle.std.specs.Fmt.{decimal}
 use Rattle.std.specs.Str.{is_utf8}
-use Rattle.json.specs.Json.{Json, null, number, string, array, object, Items, no_items, item, Members, no_members, member, document}
+use Rattle.json.specs.Json.{Json, null, number, string, object, Items, no_items, item, Members, no_members, member, document}
 use Rattle.json.specs.Print.{print}
 use Rattle.json.specs.Tree.{json_tokens}
 use Rattle.jwt_jws.specs.declared.fault.FormFault.{FormFault}
@@ -53,9 +53,6 @@ some_text name (Some t) = text name t ∷ []
 
 abbrev pub count : List ℕ → ℕ → Named
 count name value = (name, number (decimal value))
-
-abbrev pub list : List ℕ → List Json → Named
-list name values = (name, array (items_in values))
 
 -- ---- a fault: its name, and what it names
 

@@ -2,11 +2,9 @@
 
 -- what the claims of an accepted token don't meet
 pub mod Denied
--- the names of the faults of a token, with their places, as the lines of the commands have them
-pub mod Faults
--- the line of a verdict
+-- the answer to a token
 pub mod Verdicts
--- the output of `verify --json`
+-- what a run left of signatures and tries, as `verify --json` prints it
 pub mod VerdictsJson
 -- the two ways to print an answer of `verify`
 pub mod Printer

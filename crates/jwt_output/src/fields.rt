@@ -2,7 +2,6 @@
 //!
 //! [`report_answer`] is the answer of a report; [`Fields`] is any list, which is printed either way.
 mod field;
-pub mod laws;
 mod line;
 mod list;
 mod object;

@@ -102,8 +102,6 @@ abbrev pub answer : Printing → Option Denial → Verdict → List ℕ → List
 answer printing lacks (Accepted i j claims) payload ran = acceptance printing lacks i j payload ran
 answer printing lacks (Refused f) payload ran = refusal printing f ran
 
--- ---- Cited by laws alone
-
 -- what the claims of an accepted token lack
 abbrev pub lacks_of : Demands → Moment → Verdict → Option Denial
 lacks_of demands at (Accepted i j claims) = lacking demands at claims

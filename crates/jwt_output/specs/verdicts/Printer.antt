@@ -8,8 +8,7 @@ use Rattle.jwt_verify.specs.Verdict.{Terms}
 use Rattle.jwt_output.specs.verdicts.Denied.{Demands}
 use Rattle.jwt_output.specs.Printed.{Answer}
 use Rattle.jwt_output.specs.Refused.{printed_access_fault, printed_keys_fault, printed_policy_fault, printed_read_fault}
-use Rattle.jwt_output.specs.verdicts.Verdicts.{token_answer}
-use Rattle.jwt_output.specs.verdicts.VerdictsJson.{token_json}
+use Rattle.jwt_output.specs.verdicts.Verdicts.{token_answer, token_json}
 use Rattle.jwt_settings.specs.Seen.{Expectation}
 use Rattle.jwt_settings.specs.declared.printing.Printing.{Printing}
 use Rattle.jwt_settings.specs.declared.printing.Printing.TheVariants.{Json, Lines}

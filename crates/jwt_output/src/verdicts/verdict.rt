@@ -1,17 +1,15 @@
 //! The answer to a token, in lines and in JSON.
-ghost use Rattle.std.specs.Prelude.{◌≡◌, length, IfOk};
+ghost use Rattle.std.specs.Prelude.{◌≡◌, IfOk};
 ghost use Rattle.jwt_verify.specs.Reports.{FoundMemory};
 ghost use Rattle.jwt_verify.specs.declared.report.InputFault.TheVariants.{Read};
 ghost use Rattle.jwt_verify.specs.declared.report.Fault.TheVariants.{Text};
 ghost use Rattle.jwt_verify.specs.declared.report.Verdict.TheVariants.{Refused};
 ghost use Rattle.jwt_output.specs.fields.Verdicts.{lacks_of};
-ghost use Rattle.jwt_output.specs.verdicts.VerdictsJson.{verdict_json};
-ghost use Rattle.jwt_output.specs.verdicts.Verdicts.{verify_line};
+ghost use Rattle.jwt_output.specs.verdicts.Verdicts.{verdict_json, verify_line};
 ghost use Rattle.jwt_output.specs.Views.{reply_view};
 ghost use Rattle.jwt_output.specs.verdicts.Views.{demands_view};
 
 use crate::Reply;
-use crate::fields::laws::answers_are_the_same;
 use crate::fields::report_answer;
 use crate::verdicts::demands::Demands;
 use crate::verdicts::denied::lacking;
@@ -40,11 +38,10 @@ pub fn report_line(
 ) -> Result<Reply, AllocError>
     ensures line { IfOk result (λ a. reply_view a
         ≡ verify_line (demands_view demands.now) demands.now.moment report.now.verdict
-        (length report.now.tries.items) work) }
+        report.now.states.items report.now.tries.items work) }
     ensures memory { IfOk result (λ a. FoundMemory report.now.verdict) }
     ensures failed { IfOk result (λ a. a.status ≡ 3 → report.now.verdict ≡ Refused (Text Read)) }
 {
-    answers_are_the_same();
     let lacks = lacks_of(demands, &report.verdict);
     report_answer(alloc, Printing::Lines, report, &lacks, b"", work)
 }
@@ -63,7 +60,6 @@ pub fn report_json(
     ensures memory { IfOk result (λ a. FoundMemory report.now.verdict) }
     ensures failed { IfOk result (λ a. a.status ≡ 3 → report.now.verdict ≡ Refused (Text Read)) }
 {
-    answers_are_the_same();
     let lacks = lacks_of(demands, &report.verdict);
     report_answer(alloc, Printing::Json, report, &lacks, payload, work)
 }

@@ -2,7 +2,7 @@ use Rattle.std.proofs.Common.{ap₂, ◌∙◌, subst}
 use Rattle.jwt_verify.specs.Reports.{IsReport}
 use Rattle.jwt_verify.specs.TermsTable.{terms_meant}
 use Rattle.jwt_output.specs.Views.{reply_view}
-use Rattle.jwt_output.specs.verdicts.VerdictsJson.{verdict_json}
+use Rattle.jwt_output.specs.verdicts.Verdicts.{verdict_json}
 use Rattle.jwt_command.specs.Views.{asked_of}
 use Rattle.jwt_command.proofs.Verifying.{answered_in_json, read_payload}
 use Rattle.jwt_command.proofs.verify.on_octets_in_json.Goals as goal

@@ -1,4 +1,4 @@
-use Rattle.std.proofs.Common.{length, ap₂, ◌∙◌, subst}
+use Rattle.std.proofs.Common.{ap₂, ◌∙◌, subst}
 use Rattle.jwt_verify.specs.Reports.{IsReport}
 use Rattle.jwt_verify.specs.TermsTable.{terms_meant}
 use Rattle.jwt_output.specs.Views.{reply_view}
@@ -15,7 +15,7 @@ returns-clause-line g c =
     answered_in_hand (asked_of c.args.telling.now) q x c.tells_reports.ensures r c.octets.result
     (subst (λ w. IsReport q x w r) (c.new-budget.ensures.ceiling ∙ c.work.ensures.value)
     c.judge_under-judged.ensures.judged.report)
-    (c.octets.ensures ∙ c.judge_under-judged.ensures.charged.counted.octets) c.in_ok-reply.ensures.memory (reply_view c.in_ok-reply.reply) (c.in_ok-reply.ensures.line ∙ ap₂ (λ d m. verify_line d m r.verdict (length r.tries.items) c.octets.result) c.demands-demands.ensures.asked c.demands-demands.ensures.moment)
+    (c.octets.ensures ∙ c.judge_under-judged.ensures.charged.counted.octets) c.in_ok-reply.ensures.memory (reply_view c.in_ok-reply.reply) (c.in_ok-reply.ensures.line ∙ ap₂ (λ d m. verify_line d m r.verdict r.states.items r.tries.items c.octets.result) c.demands-demands.ensures.asked c.demands-demands.ensures.moment)
 
 pub returns-clause-done : goal.returns-clause-done
 returns-clause-done g c = λ is. c.judge_under-judged.ensures.judged.read (c.in_ok-reply.ensures.failed is)

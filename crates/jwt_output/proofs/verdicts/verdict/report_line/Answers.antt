@@ -1,9 +1,8 @@
-use Rattle.std.proofs.Common.{◌≡◌, ◌∙◌, ap, subst, Option, IfOk, []}
+use Rattle.std.proofs.Common.{◌≡◌, ap, subst, Option, IfOk, []}
 use Rattle.jwt_access.specs.declared.denial.Denial.{Denial}
 use Rattle.jwt_output.specs.Printed.{Answer}
 use Rattle.jwt_output.specs.Views.{reply_view}
 use Rattle.jwt_output.specs.fields.Verdicts.{answer, evidence}
-use Rattle.jwt_output.specs.verdicts.Views.{demands_view}
 use Rattle.jwt_settings.specs.declared.printing.Printing.TheVariants.{Lines}
 use Rattle.jwt_output.proofs.verdicts.verdict.report_line.Goals as goal
 
@@ -11,6 +10,4 @@ pub returns-clause-line : goal.returns-clause-line
 returns-clause-line c =
     let report = c.args.report.now in
     let left = evidence report.states.items report.tries.items c.args.work in
-    let is = ap (λ (l : Option Denial). answer Lines l report.verdict [] left) c.lacks_of-lacks.ensures
-    ∙ c.answers_are_the_same.ensures.lines (demands_view c.args.demands.now) c.args.demands.now.moment report.verdict [] report.states.items report.tries.items c.args.work in
-    subst (λ (w : Answer). IfOk c.report_answer.result (λ a. reply_view a ≡ w)) is c.report_answer.ensures.answer
+    subst (λ (w : Answer). IfOk c.report_answer.result (λ a. reply_view a ≡ w)) (ap (λ (l : Option Denial). answer Lines l report.verdict [] left) c.lacks_of-lacks.ensures) c.report_answer.ensures.answer
