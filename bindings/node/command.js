@@ -34,5 +34,5 @@ const system = {
   now: Date.now,
   random: randomFillSync,
 };
-const module_ = new WebAssembly.Module(fs.readFileSync(join(__dirname, 'program.wasm')));
-process.exitCode = run(module_, process.argv.slice(2), system);
+const program = new WebAssembly.Module(fs.readFileSync(join(__dirname, 'program.wasm')));
+process.exitCode = run(program, process.argv.slice(2), system);

@@ -49,14 +49,14 @@ const said = (err) => {
 /** "ab; do this." as a sentence of its own. */
 const sentence = (text) => (text === '' ? '' : text[0].toUpperCase() + text.slice(1) + (/[.!?)]$/.test(text) ? '' : '.'));
 
-let module_, keyIs = 'text', seed = '';
+let program, keyIs = 'text', seed = '';
 
 /** Runs the program on words, an input, and files that are texts or octets: what it prints, and its status. */
 function jwt(words, { input = '', files = {} } = {}) {
   const encoder = new TextEncoder(), octets = (it) => (typeof it === 'string' ? encoder.encode(it) : it);
   const open = new Map([[0, { octets: octets(input), at: 0 }]]), written = { 1: [], 2: [] };
   const fail = (code) => { throw Object.assign(new Error(code), { code }); };
-  const status = run(module_, words, {
+  const status = run(program, words, {
     read(fd, most) {
       const file = open.get(fd) ?? fail('EBADF'), part = file.octets.subarray(file.at, file.at + most);
       file.at += part.length;
@@ -279,7 +279,7 @@ function judge() {
 async function begin() {
   const packed = Uint8Array.from(atob($('wasm').textContent.trim()), (it) => it.charCodeAt(0));
   const bytes = await new Response(new Blob([packed]).stream().pipeThrough(new DecompressionStream('gzip'))).arrayBuffer();
-  module_ = await WebAssembly.compile(bytes);
+  program = await WebAssembly.compile(bytes);
   const { out } = jwt(['--version']);
   $('about').textContent = `${BUILT}${out.trim().replace(/^jwt/, 'Fowharimu')}; compiled for WebAssembly, ${Math.round(bytes.byteLength / 1024)} KB.`;
   $('preset').append(el('option', { value: 'token' }, 'As the token says of itself'), el('option', { value: 'own' }, 'My own'), el('optgroup', { label: 'Profiles' }, Object.keys(PROFILES).map((name) => el('option', { value: name }, name))));
