@@ -568,8 +568,8 @@ uint32_t fow_once_take(fow_once *once, fow_validator *validator, int64_t now, ui
 #define FOW_MARK_LEN 32
 
 /* How a token or a proof that counts once is held. A store that several processes share keeps of each what stands here, and beside them four numbers: `opened`, as
- * of fow_once_open; `latest`, the greatest moment that it was told; `span`, the greatest `grace`; and `horizon`, which is 0 at first. It answers, in one step: Late
- * where `issued` is before `opened`, or `moment` before `horizon`, or `moment` + `grace` before `latest`; else Seen where it has the mark; and else it may let go of
+ * of fow_once_open; `latest`, the greatest moment that it was told; `span`, the greatest `grace`; and `horizon`, which is 0 at first. It answers, in one step: Before
+ * where `issued` is before `opened`; Late where `moment` is before `horizon`, or `moment` + `grace` before `latest`; else Seen where it has the mark; and else it may let go of
  * one whose `moment` + `span` is before `latest`, the one with the least moment, by which `horizon` becomes at least that moment + 1; it refuses where there is no
  * room, or where the owner has its share; else it keeps the entry, and the token is new (docs/ONCE.md). */
 typedef struct fow_entry {

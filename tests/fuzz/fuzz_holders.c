@@ -121,9 +121,7 @@ static void open_possession(const call *c)
 /* What is kept of a proof that is accepted, in just enough room. */
 static void check_kept(const call *c, text proof)
 {
-    uint8_t mark[FOW_MARK_LEN];
-    uint64_t until = 7;
-    uint32_t lacks = 77;
+    fow_entry entry;
     size_t written = 7;
     int is_of_a_row = 0;
     size_t signed_len = (size_t)((const uint8_t *)memrchr(proof.at, '.', proof.len) - proof.at);
@@ -132,8 +130,7 @@ static void check_kept(const call *c, text proof)
     CHECK(is_of_a_row);
     CHECK(fow_possession_thumbprint(&c->one->possession, area_end(&rooms, FOW_THUMBPRINT_LEN), FOW_THUMBPRINT_LEN, &written) == FOW_OK && written == FOW_THUMBPRINT_LEN);
     CHECK(fow_possession_thumbprint(&c->one->possession, area_end(&rooms, FOW_THUMBPRINT_LEN - 1), FOW_THUMBPRINT_LEN - 1, &written) == FOW_TOO_SHORT);
-    CHECK(fow_possession_entry(&c->one->possession, mark, sizeof mark - 1, &until, &lacks) == FOW_TOO_SHORT && until == 7);
-    CHECK(fow_possession_entry(&c->one->possession, mark, sizeof mark, &until, &lacks) == FOW_OK && lacks == FOW_TAKEN_NOTHING && (int64_t)until >= moment);
+    CHECK(fow_possession_entry(&c->one->possession, &entry) == FOW_OK && (int64_t)(entry.moment + entry.grace) >= moment);
 }
 
 static void judge_proof(const call *c)
