@@ -16,7 +16,7 @@ static int has_front(text it, const char *front)
     return it.len >= strlen(front) && strncasecmp((const char *)it.at, front, strlen(front)) == 0;
 }
 
-/* The token of a request is of the characters of RFC 6750, section 2.1, and stands behind a scheme that is taken, and spaces. */
+/* The token of a request is of the characters of RFC 6750, section 2.1, and stands behind optional white space (RFC 9110, section 5.5), a scheme that is taken, and spaces. */
 static void check_credentials(uint32_t schemes, text value)
 {
     static const char characters[] = "ABCDEFGHIJKLMNOPQRSTUVWXYZabcdefghijklmnopqrstuvwxyz0123456789-._~+/=";
@@ -32,8 +32,12 @@ static void check_credentials(uint32_t schemes, text value)
     if (status != FOW_OK)
         return;
     const char *name = scheme == FOW_BEARER ? "Bearer" : "DPoP";
-    CHECK(has_front(value, name) && strlen(name) < from && from < to && to <= value.len);
-    for (size_t i = strlen(name); i < from; i++)
+    size_t begin = 0;
+    while (begin < value.len && (value.at[begin] == ' ' || value.at[begin] == '\t'))
+        begin++;
+    text rest = { value.at + begin, value.len - begin };
+    CHECK(has_front(rest, name) && begin + strlen(name) < from && from < to && to <= value.len);
+    for (size_t i = begin + strlen(name); i < from; i++)
         CHECK(value.at[i] == ' ');
     for (size_t i = from; i < to; i++)
         CHECK(value.at[i] != 0 && strchr(characters, value.at[i]) != NULL);
