@@ -15,6 +15,7 @@
 #   make wasm                        builds build/wasm/fowharimu.wasm and program.wasm, the library and the program as WebAssembly, over what is proved
 #                                    (bindings/wasm/README.md)
 #   make page                        builds build/fowharimu.html, a page that looks at tokens (bindings/page/README.md)
+#   make drawn                       draws anew what is drawn of tables: of faults (gate/faults.txt), of options, of crates (crates.txt), of costs, and lists of files in specs/ and proofs/
 #   make nginx                       builds build/nginx/ngx_http_fowharimu_module.so (Debian: nginx-dev)
 #   make nginx-install DESTDIR=      installs it where Debian's nginx looks for modules, with the endpoint for other gateways
 PREFIX ?= /usr/local
@@ -209,6 +210,14 @@ check-dist:
 test: libraries
 	tests/run
 
+drawn:
+	gate/faults.py --write
+	gate/options.py --write
+	gate/contents.py --write
+	gate/lemmas.py --write
+	gate/layers.py --write
+	bench/picture
+
 SECONDS = 20
 
 fuzz: libraries
@@ -219,4 +228,4 @@ clean:
 
 FORCE:
 
-.PHONY: all libraries wasm page $(OTHERS) $(OTHERS:%=%-program) python node java dist check-dist install deb nginx nginx-files nginx-install test fuzz clean FORCE
+.PHONY: all libraries wasm page $(OTHERS) $(OTHERS:%=%-program) python node java dist check-dist install deb nginx nginx-files nginx-install test drawn fuzz clean FORCE

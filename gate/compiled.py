@@ -30,6 +30,11 @@ exec '{clang}' "$@"
 """
 
 
+def kits_tools():
+    """The folder with the kit's tools."""
+    return pathlib.Path(kit.loaded().__file__).parent.parent / "toolchain"
+
+
 def made(name, command, build):
     """Makes something of a crate: over the libraries that `rt ci` has left, where they all stand so, else by this command of `rt`."""
     if kit.is_left_below(kit.crate(name)):
@@ -77,7 +82,7 @@ def for_target(name, target, out):
 def module(name, out):
     """Keeps the LLVM module that the kit compiles of a crate, and says whether that went well."""
     with tempfile.TemporaryDirectory() as room:
-        room, tools = pathlib.Path(room), pathlib.Path(kit.folder(), "toolchain")
+        room, tools = pathlib.Path(room), kits_tools()
         for it in ("bin", "lib"):
             (room / it).mkdir()
             for file in (tools / it).iterdir():

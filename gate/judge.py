@@ -1,7 +1,7 @@
 #!/usr/bin/env python3
 """Holds what refusals.py makes of the prover's words to words that it has said, and to those words changed; runs no prover.
 
-`words.txt` is what the prover said of a copy of rsa_number with twelve wrong bodies and a control. Of each change it is known how many
+`words.txt` is what the prover said of a copy of the module `powers` of jwt_rsa with twelve wrong bodies and a control. Of each change it is known how many
 of the twelve are clearly refused. It ends with 'N passed, M failed'.
 """
 import pathlib, sys, types
@@ -25,13 +25,13 @@ modulus has_size
 power raise
 octets write_limb
 power first_forms"""
-CONTROL = "fn rsa_number::octets::without_zeros: no holes"
-OTHER = "fn rsa_number::limbs::is_less: "
-HOLE = "depends on a hole in `Rattle.rsa_number.proofs.limbs.is_less.Proof.is_less_spec`"
-STEP = "fn rsa_number::montgomery::step: not proved; it stands on `Rattle.rsa_number.proofs.montgomery.step.Answers.returns`, which antt refuses"
+CONTROL = "fn jwt_rsa::powers::octets::without_zeros: no holes"
+OTHER = "fn jwt_rsa::powers::limbs::is_less: "
+HOLE = "depends on a hole in `Rattle.jwt_rsa.proofs.powers.limbs.is_less.Proof.is_less_spec`"
+STEP = "fn jwt_rsa::powers::montgomery::step: not proved; it stands on `Rattle.jwt_rsa.proofs.powers.montgomery.step.Answers.returns`, which antt refuses"
 BITS = "bits/Answers.antt"
-CALLS = "no proof: it calls `rsa_number::limbs::subtract`, which is not proved"
-PASSES = "no proof: it passes the block `rsa_number::limbs::LimbsShown`, which is not proved"
+CALLS = "no proof: it calls `jwt_rsa::powers::limbs::subtract`, which is not proved"
+PASSES = "no proof: it passes the block `jwt_rsa::powers::limbs::LimbsShown`, which is not proved"
 GOAL = "`returns`: `omega`: the goal does not follow from what it read. All of that holds, and the goal fails, at `mir"
 # What is changed in the words, the status, and how many are then refused together.
 CASES = [
@@ -61,7 +61,7 @@ def group():
     edits = []
     for line in EDITED.splitlines():
         module, name = line.split()
-        path = f"src/{module}.rt"
+        path = f"src/powers/{module}.rt"
         function = refusals.Function(path, name, 0, 0, 0, False)
         edits.append(refusals.Edit(pathlib.Path(f"{module}_{name}.edit"), path, {}, function))
     return refusals.Group(edits, {})
@@ -69,7 +69,7 @@ def group():
 
 def main():
     crate = object.__new__(refusals.Crate)
-    crate.name, crate.folder = "rsa_number", refusals.TOP / "crates/rsa_number"
+    crate.name, crate.folder = "jwt_rsa", refusals.TOP / "crates/jwt_rsa"
     words, failed = (HERE / "words.txt").read_text(), 0
     for name, old, new, status, wanted in CASES:
         is_there = old in words

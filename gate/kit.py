@@ -15,7 +15,7 @@ TOP = pathlib.Path(__file__).resolve().parent.parent
 CALLED = {
     "": {"checked": 4, "unread": 2},
     "rtlib": {"crates_below": 1, "guarded": 0},
-    "rtlib.Crate": {"below": 1, "stamp": 1, "is_built": 1, "has_kept": 1, "build_static": 2, "compile": 3, "call": 1},
+    "rtlib.Crate": {"below": 1, "stamp": 1, "is_built": 1, "has_kept": 1, "build_static": 2, "compile": 3},
 }
 
 
@@ -30,15 +30,10 @@ def logic():
 
 
 @functools.cache
-def folder():
-    """The kit's folder."""
-    return pathlib.Path(subprocess.run(["rt", "doc"], capture_output=True, text=True, check=True).stdout.strip()).parent
-
-
-@functools.cache
 def loaded():
     """The kit's command as a module."""
-    loader = importlib.machinery.SourceFileLoader("kit_rt", str(folder() / "bin/rt"))
+    folder = pathlib.Path(subprocess.run(["rt", "doc"], capture_output=True, text=True, check=True).stdout.strip()).parent
+    loader = importlib.machinery.SourceFileLoader("kit_rt", str(folder / "bin/rt"))
     module = importlib.util.module_from_spec(importlib.util.spec_from_loader("kit_rt", loader))
     loader.exec_module(module)
     module.rtlib.guarded()

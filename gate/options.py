@@ -1,5 +1,5 @@
 #!/usr/bin/env python3
-"""Draws the completions of the command for bash, zsh and fish from its table of options, crates/jwt_words/src/options.rt.
+"""Draws the completions of the command for bash, zsh and fish from its table of options, crates/jwt_words/src/options.rt, and compares the manual with it.
 
     gate/options.py            compares
     gate/options.py --write    writes docs/jwt.bash, docs/jwt.zsh and docs/jwt.fish
@@ -20,6 +20,7 @@ CHOICES = {("issue", "alg"): HMAC, ("jwk", "new"): HMAC, ("jwk", "alg"): f"{HMAC
 # What the program reads itself, ahead of `clap`: `--trim`, and the file of `show`.
 TRIM = ("trim", "", "Drops a final line feed of standard input")
 TAKES_FILE = "show"
+MANUAL = "docs/jwt.1"
 
 
 def options():
@@ -125,6 +126,17 @@ def fish(table):
     return lines
 
 
+def manual(table):
+    """What the manual has otherwise: its synopsis names of each command each option with its value, and its list of options has each."""
+    parts = dict(re.findall(r"^\.Sh (\w+)\n(.*?)(?=^\.Sh )", (TOP / MANUAL).read_text(), re.MULTILINE | re.DOTALL))
+    listed = set(re.findall(r"Fl \\-([\w-]+)", "\n".join(re.findall(r"^\.It .*", parts["OPTIONS"], re.MULTILINE))))
+    for command, rows in table.items():
+        used = "".join(re.findall(rf"^\.Nm jwt Cm {command}\n(.*?)(?=^\.Nm |\Z)", parts["SYNOPSIS"], re.MULTILINE | re.DOTALL))
+        found, wanted = set(re.findall(r"Fl \\-([\w-]+)(?: Ar ([A-Z=]+))?", used)), {(name, value) for name, value, _ in rows}
+        yield from (f"{command} --{name}: not as the table of options has it" for name, _ in sorted(found ^ wanted))
+        yield from (f"{command} --{name}: not in the list of options" for name, _ in sorted(wanted) if name not in listed)
+
+
 DRAWN = {"docs/jwt.bash": bash, "docs/jwt.zsh": zsh, "docs/jwt.fish": fish}
 
 
@@ -136,7 +148,11 @@ def main():
         elif (TOP / path).read_text() != draw(table):
             failed += 1
             print(f"{path}: not what the table of options has: gate/options.py --write")
-    print(f"{len(DRAWN) - failed} passed, {failed} failed")
+    faults = list(manual(table))
+    for fault in faults:
+        print(f"{MANUAL}: {fault}")
+    failed += bool(faults)
+    print(f"{len(DRAWN) + 1 - failed} passed, {failed} failed")
     return int(failed > 0)
 
 

@@ -1,10 +1,14 @@
 #!/usr/bin/env python3
 """Compares the recipes of CONTRIBUTING.md with the tree: the files that have a recipe's example are those that it names.
 
-Looked at are the code, the definitions and the proofs of the crates, the headers, the callers' sources, rows of data and the documents. A recipe begins with "The example
+Looked at are the code, the definitions and the proofs of the crates, the headers, the callers' sources, rows of data and the documents; what is drawn from the table of faults isn't named. A recipe begins with "The example
 is", its example's words, and, behind a colon, what they are. It ends with 'N passed, M failed', where a file of a recipe counts as one.
 """
 import pathlib, re, subprocess, sys
+
+sys.dont_write_bytecode = True
+sys.path.insert(0, str(pathlib.Path(__file__).resolve().parent))
+import faults
 
 TOP = pathlib.Path(__file__).resolve().parent.parent
 LOOKED_AT = re.compile(r"crates/\w+/(?:(?:src|specs|proofs)/|README\.md$)|include/|(?:bindings|tests)/.*\.(c|h|py|go|rs|js|ts|java)$|tests/rows/\w+\.txt$|docs/[^/]*$|README\.md$")
@@ -26,7 +30,7 @@ def main():
     passed, failed = 0, 0
     for title, words, named in recipes():
         said = re.compile("|".join(rf"(?<!\w){re.escape(it)}(?!\w)" for it in words))
-        found = {it for it, text in texts.items() if said.search(text)}
+        found = {it for it, text in texts.items() if said.search(text)} - (faults.drawn().keys() - named)
         named |= {"README.md"} & found
         for it in sorted(found ^ (named & texts.keys())):
             print(f"{title}: {it}", "has the example, and the recipe doesn't name it" if it in found else "is named, and hasn't the example")

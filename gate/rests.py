@@ -369,11 +369,11 @@ def digest(sources, edit, crate, text):
 
 # What is changed in which crate and file, a text that stands there once and what comes in its place; a wrong body; and whether that has to be tried again.
 CHANGES = [
-    ("its body", "jwt_urls", "src/url.rt", "    if len == 0 || ", "    if len <= 0 || ", "empty_host_taken", True),
-    ("another body", "jwt_urls", "src/url.rt", "    if len == 0 || ", "    if len <= 0 || ", "empty_port_taken", False),
-    ("a contract of what it calls", "jwt_urls", "src/kind.rt", "ensures value { result ≡ run self octets.now }", "ensures value { run self octets.now ≡ result }", "scheme_behind_a_slash", True),
-    ("a contract of what it doesn't call", "jwt_urls", "src/kind.rt", "ensures value { result ≡ suffix_len (is_of self) octets.now }", "ensures value { suffix_len (is_of self) octets.now ≡ result }", "scheme_behind_a_slash", False),
-    ("a definition that its contract cites", "jwt_urls", "specs/Urls.antt", "is_of First c = not (c == 58 || c == 47 || c == 63)", "is_of First c = not (c == 58 || c == 47)", "scheme_behind_a_slash", True),
+    ("its body", "jwt_request", "src/urls/url.rt", "    if len == 0 || ", "    if len <= 0 || ", "empty_host_taken", True),
+    ("another body", "jwt_request", "src/urls/url.rt", "    if len == 0 || ", "    if len <= 0 || ", "empty_port_taken", False),
+    ("a contract of what it calls", "jwt_request", "src/urls/kind.rt", "ensures value { result ≡ run self octets.now }", "ensures value { run self octets.now ≡ result }", "scheme_behind_a_slash", True),
+    ("a contract of what it doesn't call", "jwt_request", "src/urls/kind.rt", "ensures value { result ≡ suffix_len (is_of self) octets.now }", "ensures value { suffix_len (is_of self) octets.now ≡ result }", "scheme_behind_a_slash", False),
+    ("a definition that its contract cites", "jwt_request", "specs/urls/Urls.antt", "is_of First c = not (c == 58 || c == 47 || c == 63)", "is_of First c = not (c == 58 || c == 47)", "scheme_behind_a_slash", True),
     ("a comment", "jwt_text", "src/lib.rt", "#![tactic(auto)]", "#![tactic(auto)]\n// a comment", "one_octet_more", False),
     ("a constant of a crate below", "jwt_text", "src/limits.rt", "LONGEST_KEY_SET: u32 = 4_194_304", "LONGEST_KEY_SET: u32 = 4_194_305", "one_octet_more", True),
 ]
@@ -397,9 +397,9 @@ def tried():
     """Tries each change of CHANGES, and says how many came out as they have to."""
     failed = 0
     for what, crate, path, old, new, of, again in CHANGES:
-        sources, (edit, text) = here("jwt_urls"), edit_of("jwt_urls", of)
+        sources, (edit, text) = here("jwt_request"), edit_of("jwt_request", of)
         now = changed(sources, crate, path, old, new)
-        came = None if now is None else digest(now, edit, "jwt_urls", text) != digest(sources, edit, "jwt_urls", text)
+        came = None if now is None else digest(now, edit, "jwt_request", text) != digest(sources, edit, "jwt_request", text)
         if came is not again:
             failed += 1
             print(f"rests: {what}, of {of}: {'the text is gone' if came is None else 'tried again' if came else 'not tried again'}")

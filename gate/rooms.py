@@ -5,8 +5,8 @@ alone do.
     gate/rooms.py              of each crate how many definitions there are of each, and whether each stands where it belongs
     gate/rooms.py CRATE ..     each definition of these crates, with its file
 
-A definition belongs to the first of these that cites it, or cites one that cites it. `specs/Lib.antt` lists the files in these three parts, a
-file in the part of its first definition; in a file that has several, a line parts them. What proofs alone cite belongs in `proofs/`. It
+A definition belongs to the first of these that cites it, or cites one that cites it. `specs/Lib.antt` lists the files in these three parts, and so does
+the list of each folder below it, a file in the part of its first definition; in a file that has several, a line parts them. What proofs alone cite belongs in `proofs/`. It
 is a rough reader of the layout of `rt fmt`, and of definitions by their names.
 """
 import collections, pathlib, re, sys
@@ -21,7 +21,7 @@ PARTS = [
 ]
 LINES = {"-- ---- Cited by laws alone": LAW, "-- ---- Cited by contracts of private functions alone": PRIVATE}
 # Crates that nothing stands on.
-ASIDE = re.compile(r"_tests$|^jwt_(support|bench|tool)$")
+ASIDE = re.compile(r"_tests$|^jwt_(support|tool)$")
 # Both forms of an import: names of a module, and the module by a name of its own.
 NAMES = re.compile(r"use Rattle\.(\w+)\.specs\.([\w.]+)\.\{([^}]*)\}")
 WHOLE = re.compile(r"use Rattle\.(\w+)\.specs\.([\w.]+) as (\w+)")
@@ -218,15 +218,18 @@ def rooms():
 
 
 def misplaced_files(crate, room_of_file):
-    """What is wrong in the parts of a crate's `specs/Lib.antt`."""
-    path = TOP / "crates" / crate / "specs/Lib.antt"
-    part, found = None, []
-    for line in path.read_text().split("\n") if path.exists() else []:
-        module = re.match(r"pub mod (\w+)", line)
-        if line in PARTS:
-            part = PARTS.index(line)
-        elif module and module[1] in room_of_file and part != room_of_file[module[1]]:
-            found.append(f"{path.relative_to(TOP)}: {module[1]} belongs to the part of {ROOMS[room_of_file[module[1]]]}")
+    """What is wrong in the parts of a crate's `specs/Lib.antt`, and of the lists of the folders below it."""
+    found = []
+    for path in sorted((TOP / "crates" / crate / "specs").rglob("*.antt")):
+        folder = path.parent if path.name == "Lib.antt" else path.with_suffix("")
+        part = None
+        for line in path.read_text().split("\n") if folder.is_dir() else []:
+            module = re.match(r"pub mod (\w+)", line)
+            room = room_of_file.get(folder / f"{module[1]}.antt") if module else None
+            if line in PARTS:
+                part = PARTS.index(line)
+            elif room not in (None, part):
+                found.append(f"{path.relative_to(TOP)}: {module[1]} belongs to the part of {ROOMS[room]}")
     return found
 
 
@@ -258,7 +261,7 @@ def main():
         if listed:
             crate = listed[0][0].split(".")[0]
             counts[crate].update(room_of[it] for it in listed)
-            files[crate][path.stem] = min(room_of[it] for it in listed)
+            files[crate][path] = min(room_of[it] for it in listed)
             wrong += misplaced_definitions(path, listed, room_of)
     print("crate", *ROOMS, sep="\t")
     for crate in sorted(counts):

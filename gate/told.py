@@ -69,7 +69,7 @@ def main():
         ("with no table", told(False, {}), lambda it: it == "jwt_mac: proofs done; 1 of 2 done, 10 minutes so far\n"),
         ("in words", progress.in_words(0.2), lambda it: it == "about 1 minute"),
         ("in words, where nothing is known", progress.in_words(None), lambda it: it == "some minutes"),
-        ("of a whole run", progress.expected({DONE: 2.0, ("rsa_number", "proofs"): 20.0, progress.BEHIND: 30.0}), lambda it: it == 50.0),
+        ("of a whole run", progress.expected({DONE: 2.0, ("numbers", "proofs"): 20.0, progress.BEHIND: 30.0}), lambda it: it == 50.0),
         ("of a slower machine", progress.expected({DONE: 2.0, progress.UNIT: 0.2}, 0.6), lambda it: round(it, 6) == 6.0),
         ("of a chain", progress.expected({DONE: 4.0, ("jwt_keys", "proofs"): 3.0, ("jwt_keys", "tests"): 5.0}), lambda it: it == 12.0),
         ("of a run, with no table", progress.expected({}), lambda it: it is None),

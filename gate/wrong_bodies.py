@@ -6,6 +6,7 @@
     gate/wrong_bodies.py --all CRATE ..           tries also what the ledger has as refused
     gate/wrong_bodies.py --write CRATE ..         writes what this run has refused into the ledger
     gate/wrong_bodies.py --groups CRATE ..        prints which would be tried together, and tries none
+    gate/wrong_bodies.py --lacking                says how many the ledgers lack, and fails where that is more than a third of all: ./check --all writes them
 
 crates/CRATE/wrong/*.edit are the wrong bodies. Beside them stand `control`, an edit that means the same as what stands there, and
 so has to be proved, and `alone`, with the names of those that are tried one by one, a line each, and behind the name of one that stands
@@ -183,8 +184,19 @@ class Trial:
             print(f"{self.name}: alone: {file.stem}: {said}")
 
 
+def lacking():
+    """Says how many wrong bodies the ledgers don't have as refused by what they rest on today; the status is 1 where that is more than a third."""
+    trials = [Trial(it, []) for it in crates_with_any()]
+    count, lack = sum(len(it.files) for it in trials), sum(len(it.files) - len(it.known) for it in trials)
+    print(f"the ledgers lack {lack} of {count} wrong bodies" + (": ./check --all tries them and writes the ledgers, which are committed then" if lack else ""))
+    print("0 passed, 1 failed" if 3 * lack > count else "1 passed, 0 failed")
+    return int(3 * lack > count)
+
+
 def main():
     """Tries the crates that the words name, and gives the status."""
+    if sys.argv[1:] == ["--lacking"]:
+        return lacking()
     flags = [it for it in sys.argv[1:] if it in ("--from-nothing", "--all", "--write", "--groups")]
     names = [it for it in sys.argv[1:] if it not in flags]
     unknown = [it for it in names if not (TOP / "crates" / it / "src").is_dir()]

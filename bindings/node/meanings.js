@@ -1,5 +1,5 @@
 'use strict';
-// What each fault means, by what it is of. Drawn from docs/FAULTS.md by gate/faults.py.
+// What each fault means, by what it is of. Drawn from gate/faults.txt by gate/faults.py.
 module.exports = {
   policy: {
     __proto__: null,

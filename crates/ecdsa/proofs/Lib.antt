@@ -1,44 +1,41 @@
--- ---- limbs: the functions of limbs, p256_prime and p521_prime
-
-pub mod Rows
-pub mod NineLimbs
--- ---- inverses: the functions of euclid
-
-pub mod Search
+-- ---- For constants.rt
+pub mod CurveConstants
+-- ---- For euclid.rt
 pub mod Reductions
-pub mod Inverses
--- ---- the field: the functions of field
-
-pub mod Units
+-- ---- For field.rt
 pub mod Forms
--- ---- points: the functions of formulas and sums
+-- ---- For formulas.rt
+pub mod Made
+-- ---- For jws.rt
+pub mod Counted
+-- ---- For laws.rt
+pub mod Tables256
+pub mod Tables384
+pub mod Tables521
+-- ---- For p521_prime.rt
+pub mod NineLimbs
+-- ---- For prepared.rt
+pub mod Lent
+-- ---- For sums.rt
+pub mod Rules
+-- ---- For several files
+pub mod Rows
 pub mod Congruence
 pub mod FieldValues
-pub mod Made
+pub mod MultipleSteps
+pub mod Doublings
+pub mod WindowSteps
+pub mod SignatureVerdicts
+pub mod OctetVerdicts
+-- ---- For other lemmas
+pub mod Search
+pub mod Inverses
+pub mod Units
 pub mod Slopes
 pub mod Chord
 pub mod Tangent
 pub mod Thirds
-pub mod Rules
--- ---- multiples: the functions of multiples, tables and windows
-
-pub mod MultipleSteps
-pub mod Doublings
-pub mod WindowSteps
--- ---- the tables of doubles: the laws p256_table, p384_table and p521_table
-
 pub mod Chains
 pub mod Inverses256
 pub mod Inverses384
 pub mod Inverses521
-pub mod Tables256
-pub mod Tables384
-pub mod Tables521
--- ---- signatures: the functions of constants, octets, signatures and verifying
-
-pub mod CurveConstants
-pub mod SignatureVerdicts
-pub mod OctetVerdicts
--- ---- prepared keys: the functions of prepared
-
-pub mod Lent

@@ -20,6 +20,8 @@ pub mod Field
 pub mod Stands
 -- tables of a point's windows
 pub mod Windows
+-- signatures on tokens
+pub mod jws
 -- ---- What laws alone cite
 
 -- the definition's parameters of a curve as it is held

@@ -1,7 +1,7 @@
 //! ECDSA on the curves P-256, P-384 and P-521 of NIST SP 800-186, by SEC 1 version 2, section 4.1.4, and FIPS 186-5, section 6.4.2.
 //!
 //! ```rust
-//! use ecdsa::verifies_p256;
+//! use crate::verifies_p256;
 //!
 //! // The digest by SHA-256, the two coordinates of the key, and the signature, R before S.
 //! verifies_p256(&digest, x, y, signature)
@@ -27,6 +27,7 @@ mod euclid;
 mod field;
 mod formulas;
 mod held;
+pub mod jws;
 mod keys;
 pub mod laws;
 mod limbs;

@@ -10,7 +10,7 @@ pub use Rattle.jwt_mac.specs.Algorithm
 pub use Rattle.jwt_mac.specs.Hmac
 pub use Rattle.jwt_mac.specs.Verifying
 pub use Rattle.jwt_rsa.specs.Meanings
-pub use Rattle.jwt_ecdsa.specs.Meanings as EcdsaMeanings
+pub use Rattle.ecdsa.specs.jws.Meanings as EcdsaMeanings
 pub use Rattle.jwt_ed25519.specs.Meanings as Ed25519Meanings
 pub use Rattle.jwt_keys.specs.FaultNames as KeysFaultNames
 pub use Rattle.jwt_keys.specs.Keys
@@ -57,12 +57,12 @@ pub use Rattle.jwt_memory.specs.Entries
 pub use Rattle.jwt_memory.specs.Kept
 pub use Rattle.jwt_memory.specs.Laws as MemoryLaws
 pub use Rattle.jwt_memory.specs.Outcomes
-pub use Rattle.jwt_once.specs.Accepted as OnceAccepted
-pub use Rattle.jwt_once.specs.Laws as OnceLaws
-pub use Rattle.jwt_once.specs.Marks as OnceMarks
-pub use Rattle.jwt_once.specs.Steps as OnceSteps
-pub use Rattle.jwt_once.specs.declared.accepted.Lack.TheVariants as LackVariants
-pub use Rattle.jwt_once.specs.declared.once.Taken.TheVariants as TakenVariants
+pub use Rattle.jwt_possession.specs.once.Accepted as OnceAccepted
+pub use Rattle.jwt_possession.specs.once.Laws as OnceLaws
+pub use Rattle.jwt_possession.specs.once.Marks as OnceMarks
+pub use Rattle.jwt_possession.specs.once.Steps as OnceSteps
+pub use Rattle.jwt_possession.specs.declared.once.accepted.Lack.TheVariants as LackVariants
+pub use Rattle.jwt_possession.specs.declared.once.once.Taken.TheVariants as TakenVariants
 pub use Rattle.jwt_issue.specs.ClaimSets
 pub use Rattle.jwt_issue.specs.FaultNames as IssueFaultNames
 pub use Rattle.jwt_issue.specs.Issued

@@ -23,7 +23,7 @@
 //! [`Shown`]: ask it of each token, a bearer's too.
 //!
 //! Each other name here is that of one of the libraries below: `jwt_text`, `jwt_mac`, `jwt_keys`, `jwt_jws`, `jwt_policy`, `jwt_access`,
-//! `jwt_verify`, `jwt_memory`, `jwt_once`, `jwt_possession`, `jwt_issue`, `jwt_expected`, `jwt_built_in`, `jwt_rsa`, `jwt_ecdsa` and `jwt_ed25519`. Their modules `laws` stand
+//! `jwt_verify`, `jwt_memory`, `jwt_possession`, `jwt_issue`, `jwt_built_in`, `jwt_rsa`, `ecdsa` and `jwt_ed25519`. Their modules `laws` stand
 //! here as `access_laws`, `expected_laws`, `token_laws`, of issuing, `memory_laws`, `once_laws`, `possession_laws` and `verdict_laws`.
 #![tactic(auto)]
 
@@ -44,10 +44,10 @@ pub use validator::Validator;
 pub use jwt_access::{AccessFault, AccessRule, Denial, DeniedName, Moment, RuleMember, has_scope};
 
 // What one call knows of an accepted token's claims: texts, as a `nonce`, and octets whose hash a claim has to be, as `at_hash`.
-pub use jwt_expected::{Expected, Unmet, Wanted, first_unmet};
+pub use jwt_access::expected::{Expected, Unmet, Wanted, first_unmet};
 
 // Taking a token once.
-pub use jwt_once::{Entry, Lack, Once, Taken, Times, entry_of, owner_in};
+pub use jwt_possession::once::{Entry, Lack, Once, Taken, Times, entry_of, owner_in};
 
 // Who sends a token holds the key that it is bound to.
 pub use jwt_possession::{
@@ -61,8 +61,8 @@ pub use jwt_memory::{Basis, Outcome};
 pub use remembering::Remembering;
 
 // Verifiers of signatures by public keys.
+pub use ecdsa::jws::Ecdsa;
 pub use jwt_built_in::{BuiltIn, PREPARED_KEYS};
-pub use jwt_ecdsa::Ecdsa;
 pub use jwt_ed25519::Ed25519;
 pub use jwt_mac::{Answer, EcCurve, EdCurve, KeyView, Message, Verifier};
 pub use jwt_rsa::{Pkcs1, Pss, Rsa};
@@ -76,10 +76,10 @@ pub use jwt_issue::{
 };
 
 // What follows from the definitions, to be called in a proof.
+pub use jwt_access::expected::laws as expected_laws;
 pub use jwt_access::laws as access_laws;
-pub use jwt_expected::laws as expected_laws;
 pub use jwt_issue::laws as token_laws;
 pub use jwt_memory::laws as memory_laws;
-pub use jwt_once::laws as once_laws;
 pub use jwt_possession::laws as possession_laws;
+pub use jwt_possession::once::laws as once_laws;
 pub use jwt_verify::laws as verdict_laws;

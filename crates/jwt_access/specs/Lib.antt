@@ -22,6 +22,8 @@ pub mod FaultNames
 pub mod Claims
 -- the table of rows of why claims don't meet a rule
 pub mod Denials
+-- what one call knows of the claims
+pub mod expected
 -- ---- What laws alone cite
 
 -- the documents that say a rule, in words

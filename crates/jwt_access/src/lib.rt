@@ -5,7 +5,7 @@
 //! [`has_scope`] asks for one scope.
 //!
 //! ```rust
-//! use jwt_access::{AccessRule, Moment, has_scope};
+//! use crate::{AccessRule, Moment, has_scope};
 //!
 //! let rule = AccessRule::read(alloc, b"{\"scopes\":[\"read\"],\"claims\":{\"/realm_access/roles\":[\"editor\",\"admin\"]}}")?;
 //! let may = rule.denial(&claims, Moment::under(&policy, now)).is_none();
@@ -20,6 +20,7 @@ mod access_fault;
 mod claim_rule;
 mod denial;
 mod document;
+pub mod expected;
 mod further;
 mod further_kinds;
 pub mod laws;

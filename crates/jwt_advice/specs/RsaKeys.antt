@@ -1,6 +1,6 @@
 -- RSA keys that the built-in verifiers never accept a signature by.
 use Rattle.std.specs.Prelude.{◌≡◌, Bool, false, not, List, ℕ}
-use Rattle.rsa_number.specs.Octets.{os2ip}
+use Rattle.jwt_rsa.specs.powers.Octets.{os2ip}
 use Rattle.jwt_mac.specs.declared.algorithm.Alg.{Alg}
 use Rattle.jwt_mac.specs.Verifying.{Meaning, KeyOctets, RsaKey, MessageOctets}
 use Rattle.jwt_rsa.specs.PublicKey.{is_key}

@@ -2,7 +2,7 @@
 use Rattle.std.specs.Prelude.{ℕ, ◌+◌}
 use Rattle.std.specs.Option.{option_map_or}
 use Rattle.std.specs.Arc.{arc_value}
-use Rattle.jwt_ecdsa.specs.Held as ecdsa
+use Rattle.ecdsa.specs.jws.Held as ecdsa
 use Rattle.jwt_ed25519.specs.Room as ed25519
 use Rattle.jwt_rsa.specs.Held as rsa
 use Rattle.jwt_built_in.specs.declared.prepared.Prepared.{Prepared}

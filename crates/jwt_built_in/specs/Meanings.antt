@@ -3,7 +3,7 @@ use Rattle.std.specs.Prelude.{ℕ, Bool, false, List, [], ◌∷◌, Option, Som
 use Rattle.jwt_mac.specs.declared.algorithm.Alg.{Alg}
 use Rattle.jwt_mac.specs.Verifying.{Meaning, KeyOctets, MessageOctets, first_naming}
 use Rattle.jwt_rsa.specs.Meanings.{rsa_meaning}
-use Rattle.jwt_ecdsa.specs.Meanings.{ecdsa_meaning}
+use Rattle.ecdsa.specs.jws.Meanings.{ecdsa_meaning}
 use Rattle.jwt_ed25519.specs.Meanings.{ed25519_meaning}
 
 -- whether this verifier, if there is one, accepts the signature

@@ -3,12 +3,12 @@
 ghost use Rattle.std.specs.Prelude.{◌≡◌, ◌≤◌};
 ghost use Rattle.jwt_built_in.specs.Held.{curve_keys, rsa_keys};
 ghost use Rattle.jwt_mac.specs.Verifying.{AnswersBy, key_octets, message_octets};
-ghost use Rattle.jwt_ecdsa.specs.Meanings.{ecdsa_meaning};
+ghost use Rattle.ecdsa.specs.jws.Meanings.{ecdsa_meaning};
 ghost use Rattle.jwt_ed25519.specs.Meanings.{ed25519_meaning};
 ghost use Rattle.jwt_rsa.specs.Meanings.{rsa_meaning};
 
 use crate::prepared::{Prepared, some_can_be_prepared};
-use jwt_ecdsa::Ecdsa;
+use ecdsa::jws::Ecdsa;
 use jwt_ed25519::Ed25519;
 use jwt_keys::KeySet;
 use jwt_mac::{Alg, Answer, KeyView, Message, Verifier};

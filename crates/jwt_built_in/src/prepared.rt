@@ -3,7 +3,7 @@
 ghost use Rattle.std.specs.Prelude.{◌≡◌, ◌≤◌, ◌+◌};
 ghost use Rattle.jwt_built_in.specs.Held.{curve_keys_in, rsa_keys_in};
 
-use jwt_ecdsa::PreparedEcdsa;
+use ecdsa::jws::PreparedEcdsa;
 use jwt_ed25519::PreparedEd25519;
 use jwt_keys::KeySet;
 use jwt_mac::{EdCurve, KeyView};

@@ -1,14 +1,14 @@
 //! The functions that C calls for when keys by URL are fetched.
 
 ghost use Rattle.std.specs.Prelude.{◌≡◌, ◌-◌, ◌∷◌, ◌↔◌, ◌<◌, ◌≤◌, [], List, ℕ, IsTrue};
-ghost use Rattle.jwt_renewal.specs.History.{Event, passed, took, failed};
-ghost use Rattle.jwt_renewal.specs.Rules.{IsKeys, IsUsable, IsFetch, Counts, Wants, MayBegin, MayWait, with_fetch, with_end, with_waiting};
-ghost use Rattle.jwt_renewal.specs.Standing.{Stands};
-ghost use Rattle.jwt_renewal.specs.declared.asker.Asker.TheVariants.{Token};
+ghost use Rattle.jwt_request.specs.renewal.History.{Event, passed, took, failed};
+ghost use Rattle.jwt_request.specs.renewal.Rules.{IsKeys, IsUsable, IsFetch, Counts, Wants, MayBegin, MayWait, with_fetch, with_end, with_waiting};
+ghost use Rattle.jwt_request.specs.renewal.Standing.{Stands};
+ghost use Rattle.jwt_request.specs.declared.renewal.asker.Asker.TheVariants.{Token};
 ghost use Rattle.jwt_handles.specs.Renewals.{renewal_of, asker_of, keys_of, fetch_of, times_of};
 
 use jwt_handles::renewal::{self, FowRenewal, FowRenewalAnswer};
-use jwt_renewal::Times;
+use jwt_request::renewal::Times;
 
 /// [`renewal::begin`] by its name in C.
 #[unsafe(no_mangle)]

@@ -3,12 +3,12 @@
 ghost use Rattle.jwt_handles.specs.declared.status.TheConstants.{FOW_OK, FOW_OUT_OF_MEMORY, FOW_REFUSED, FOW_TOO_SHORT};
 ghost use Rattle.std.specs.Prelude.{◌≡◌, ◌≢◌, None, Some, Ok, Err};
 ghost use Rattle.jwt_text.specs.ObjectText.{object_of};
-ghost use Rattle.jwt_urls.specs.declared.writing.Unwritten.TheVariants.{Refused, TooShort};
-ghost use Rattle.jwt_urls.specs.Urls.{url_where};
-ghost use Rattle.jwt_urls.specs.Written.{IsWritten};
-ghost use Rattle.jwt_urls.specs.References.{redirection};
-ghost use Rattle.jwt_urls.specs.Metadata.{metadata_url};
-ghost use Rattle.jwt_urls.specs.Answers.{IsNext, most_of};
+ghost use Rattle.jwt_request.specs.declared.urls.writing.Unwritten.TheVariants.{Refused, TooShort};
+ghost use Rattle.jwt_request.specs.urls.Urls.{url_where};
+ghost use Rattle.jwt_request.specs.urls.Written.{IsWritten};
+ghost use Rattle.jwt_request.specs.urls.References.{redirection};
+ghost use Rattle.jwt_request.specs.urls.Metadata.{metadata_url};
+ghost use Rattle.jwt_request.specs.urls.Answers.{IsNext, most_of};
 ghost use Rattle.jwt_handles.specs.Urls.{asked_of, metadata_issuer, metadata_keys, metadata_at, next_at, parts_of};
 ghost use Rattle.jwt_handles.specs.Written.{PutsSome};
 

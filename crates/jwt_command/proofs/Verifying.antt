@@ -31,8 +31,10 @@ use Rattle.jwt_issue.specs.Options.{OptionParts}
 use Rattle.jwt_output.specs.verdicts.Denied.{Demands}
 use Rattle.jwt_output.specs.verdicts.Printer.{Printer, unless_read_failed}
 use Rattle.jwt_command.specs.Verify.{keys_answer, payload_in, under_keys, under_policy, verify_answer}
-use Rattle.jwt_output.specs.Refused.{keys_refused}
-use Rattle.jwt_output.specs.verdicts.Verdicts.{moment_of, payload_of, token_answer, token_json, verdict_json, verify_line}
+use Rattle.jwt_output.specs.Refused.{printed_keys_fault}
+use Rattle.jwt_settings.specs.declared.printing.Printing.{Printing}
+use Rattle.jwt_settings.specs.declared.printing.Printing.TheVariants.{Lines}
+use Rattle.jwt_output.specs.verdicts.Verdicts.{moment_of, payload_of, token_answer, verdict_answer}
 use Rattle.jwt_output.specs.Printed.{Answer}
 use Rattle.jwt_command.specs.Stops.{behind_keys, behind_policy, keys_most, token_most, verify_most}
 
@@ -105,7 +107,7 @@ policy_line_too_long tell vs now h x failed works long =
     sym (ap (λ f. verify_answer tell vs now h f x) works ∙ ap (λ k. under_policy tell vs now h k (behind h.policy x)) (policy_too_long (document h.policy x) long))
 
 pub issue_line_too_long : (options : OptionParts) (held : Option (List ℕ)) (x : List ℕ) (failed : Bool) → failed ≡ false → LONGEST_KEY_SET < length (document held x)
-    → keys_refused keys.TooLong ≡ issue_answer options held failed x
+    → printed_keys_fault Lines keys.TooLong ≡ issue_answer options held failed x
 issue_line_too_long options held x failed works long =
     sym (ap (λ f. issue_answer options held f x) works ∙ ap (λ k. issue_under options k (behind held x)) (keys_too_long (document held x) long))
 
@@ -120,16 +122,6 @@ rule_refused tell view r q rule fault last (Some x) failed works is line =
 
 -- ---- the line of a verdict
 
--- the same of a report on octets in hand
-pub answered_in_hand : (asked : Demands) (q : Terms) (x : List ℕ) → TellsReports → (r : Report) (octets : ℕ) → IsReport q x q.policy.run.work r
-    → octets ≡ work r.tries.items → FoundMemory r.verdict → (a : Answer) → a ≡ verify_line asked (moment_of q) r.verdict r.states.items r.tries.items octets → a ≡ token_answer asked q x
-answered_in_hand asked q x tells r octets report counted found a line =
-    let t = tells q x q.policy.run.work r report found in
-    line ∙ ap (λ n. verify_line asked (moment_of q) r.verdict r.states.items r.tries.items n) counted ∙ ap (λ v. verify_line asked (moment_of q) v r.states.items r.tries.items (work r.tries.items)) t.0
-    ∙ ap (λ sts. verify_line asked (moment_of q) (verdict_of q x q.policy.run.work) sts r.tries.items (work r.tries.items)) t.2
-    ∙ ap (λ es. verify_line asked (moment_of q) (verdict_of q x q.policy.run.work) (states (table q x) q.policy.run.work q.policy.max_calls) es (work es)) t.1
-
--- the same in JSON
 -- the payload of the token that was read for a verdict is that of the token that the octets are
 pub read_payload : (p : Settings) (x : List ℕ) (v : Verdict) (read : Option Signed) → TellsTokens → FoundMemory v → IsReadAs p x v read
     → payload_in read ≡ (token_or_none (token_of p x)).payload
@@ -140,12 +132,13 @@ read_payload p x v None tells found is = none_read (token_of p x) refl
     none_read (Ok token) e = absurd (is (λ lacks. subst FoundMemory lacks found) token ((tells p x token).0 e))
     none_read (Err fault) e = refl
 
-pub answered_in_json : (asked : Demands) (q : Terms) (x payload : List ℕ) → TellsReports → (r : Report) (octets : ℕ) → IsReport q x q.policy.run.work r → payload ≡ payload_of q x
-    → octets ≡ work r.tries.items → FoundMemory r.verdict → (a : Answer) → a ≡ verdict_json asked (moment_of q) r.verdict payload r.states.items r.tries.items octets → a ≡ token_json asked q x
-answered_in_json asked q x payload tells r octets report payload_is counted found a line =
+-- the same of a report on octets in hand
+pub answered_in_hand : (printing : Printing) (asked : Demands) (q : Terms) (x payload : List ℕ) → TellsReports → (r : Report) (octets : ℕ) → IsReport q x q.policy.run.work r → payload ≡ payload_of q x
+    → octets ≡ work r.tries.items → FoundMemory r.verdict → (a : Answer) → a ≡ verdict_answer printing asked (moment_of q) r.verdict payload r.states.items r.tries.items octets → a ≡ token_answer printing asked q x
+answered_in_hand printing asked q x payload tells r octets report payload_is counted found a line =
     let t = tells q x q.policy.run.work r report found in
-    line ∙ ap (λ p. verdict_json asked (moment_of q) r.verdict p r.states.items r.tries.items octets) payload_is
-    ∙ ap (λ n. verdict_json asked (moment_of q) r.verdict (payload_of q x) r.states.items r.tries.items n) counted
-    ∙ ap (λ v. verdict_json asked (moment_of q) v (payload_of q x) r.states.items r.tries.items (work r.tries.items)) t.0
-    ∙ ap (λ sts. verdict_json asked (moment_of q) (verdict_of q x q.policy.run.work) (payload_of q x) sts r.tries.items (work r.tries.items)) t.2
-    ∙ ap (λ es. verdict_json asked (moment_of q) (verdict_of q x q.policy.run.work) (payload_of q x) (states (table q x) q.policy.run.work q.policy.max_calls) es (work es)) t.1
+    line ∙ ap (λ p. verdict_answer printing asked (moment_of q) r.verdict p r.states.items r.tries.items octets) payload_is
+    ∙ ap (λ n. verdict_answer printing asked (moment_of q) r.verdict (payload_of q x) r.states.items r.tries.items n) counted
+    ∙ ap (λ v. verdict_answer printing asked (moment_of q) v (payload_of q x) r.states.items r.tries.items (work r.tries.items)) t.0
+    ∙ ap (λ sts. verdict_answer printing asked (moment_of q) (verdict_of q x q.policy.run.work) (payload_of q x) sts r.tries.items (work r.tries.items)) t.2
+    ∙ ap (λ es. verdict_answer printing asked (moment_of q) (verdict_of q x q.policy.run.work) (payload_of q x) (states (table q x) q.policy.run.work q.policy.max_calls) es (work es)) t.1

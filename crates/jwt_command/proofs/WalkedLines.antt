@@ -7,7 +7,7 @@ use Rattle.std.specs.Io.KnownBytes.{Consumes, IsAtEnd, Keeps, prepend_known}
 use Rattle.jwt_command.specs.Lines.{lines, onto_first}
 use Rattle.jwt_output.specs.Printed.{Answer}
 use Rattle.jwt_output.specs.verdicts.Printer.{printer_for}
-use Rattle.jwt_output.specs.verdicts.Verdicts.{moment_of, paid_tries, payload_of, token_answer, token_json, verdict_json}
+use Rattle.jwt_output.specs.verdicts.Verdicts.{moment_of, paid_tries, payload_of, token_answer, verdict_answer}
 use Rattle.jwt_access.specs.Rules.{Rule}
 use Rattle.jwt_output.specs.verdicts.Denied.{Demands}
 use Rattle.jwt_settings.specs.Seen.{Expectation}
@@ -19,7 +19,6 @@ use Rattle.jwt_verify.specs.declared.report.Fault.TheVariants.{Text}
 use Rattle.jwt_command.specs.TakenLines.{after_line, first_line, has_line_feed}
 use Rattle.jwt_command.proofs.LineLemmas.{HasNoFeed, line_at_end, line_at_feed, one_line}
 use Rattle.jwt_settings.specs.declared.printing.Printing.{Printing}
-use Rattle.jwt_settings.specs.declared.printing.Printing.TheVariants.{Json, Lines}
 
 -- ---- the first line
 
@@ -137,49 +136,32 @@ walked_feed limit (Some x) (Some y) (Some z) held new ahead after any (walked, k
 
 -- ---- the answer to a token looks no further
 
-answer_by_token : (asked : Demands) (q : Terms) (x y : List ℕ) → token_of q.policy x ≡ token_of q.policy y → token_answer asked q x ≡ token_answer asked q y
-unfolding verdict_of table
-answer_by_token asked q x y is = rw is refl
+answer_with : Printing → Demands → Terms → List ℕ → List ℕ → Answer
+answer_with printing asked q payload x =
+    verdict_answer printing asked (moment_of q) (verdict_of q x q.policy.run.work) payload (states (table q x) q.policy.run.work q.policy.max_calls) (paid_tries q x) (work (paid_tries q x))
+
+answer_with_same : (printing : Printing) (asked : Demands) (q : Terms) (payload x y : List ℕ) → token_of q.policy x ≡ token_of q.policy y → answer_with printing asked q payload x ≡ answer_with printing asked q payload y
+unfolding answer_with verdict_of table
+answer_with_same printing asked q payload x y is = rw is refl
+
+answer_by_token : (printing : Printing) (asked : Demands) (q : Terms) (x y : List ℕ) → token_of q.policy x ≡ token_of q.policy y → token_answer printing asked q x ≡ token_answer printing asked q y
+unfolding answer_with
+answer_by_token printing asked q x y is = answer_with_same printing asked q (payload_of q x) x y is ∙ ap (λ t. answer_with printing asked q (token_or_none t).payload y) is
 
 pub token_too_long : (p : Settings) (x : List ℕ) → p.run.limit < length x → token_of p x ≡ Err (Text TooLong)
 unfolding token_of
 token_too_long p x long = let is : nat_lt p.run.limit (length x) ≡ true = grind (arith, nat_tests, long) in rw is refl
 
-pub token_bounded : (asked : Demands) (q : Terms) (l : List ℕ) → token_answer asked q (take (q.policy.run.limit + 1) l) ≡ token_answer asked q l
-token_bounded asked q l = go (nat_lt q.policy.run.limit (length l)) refl
+token_bounded : (printing : Printing) (asked : Demands) (q : Terms) (l : List ℕ) → token_answer printing asked q (take (q.policy.run.limit + 1) l) ≡ token_answer printing asked q l
+token_bounded printing asked q l = go (nat_lt q.policy.run.limit (length l)) refl
   where
-    go : (b : Bool) → nat_lt q.policy.run.limit (length l) ≡ b → token_answer asked q (take (q.policy.run.limit + 1) l) ≡ token_answer asked q l
+    go : (b : Bool) → nat_lt q.policy.run.limit (length l) ≡ b → token_answer printing asked q (take (q.policy.run.limit + 1) l) ≡ token_answer printing asked q l
     go true e = let long : q.policy.run.limit < length l = grind (arith, nat_tests, e) in
-        answer_by_token asked q (take (q.policy.run.limit + 1) l) l
+        answer_by_token printing asked q (take (q.policy.run.limit + 1) l) l
         (token_too_long q.policy (take (q.policy.run.limit + 1) l) (omega (arith, length-take-all l (q.policy.run.limit + 1) (omega (arith, long)))) ∙ sym (token_too_long q.policy l long))
     go false e = let short : length l ≤ q.policy.run.limit = grind (arith, nat_tests, e) in
-        ap (token_answer asked q) (take_all (q.policy.run.limit + 1) l (omega (arith, short)))
+        ap (token_answer printing asked q) (take_all (q.policy.run.limit + 1) l (omega (arith, short)))
 
--- ---- nor does that in JSON
-
-json_with : Demands → Terms → List ℕ → List ℕ → Answer
-json_with asked q payload x =
-    verdict_json asked (moment_of q) (verdict_of q x q.policy.run.work) payload (states (table q x) q.policy.run.work q.policy.max_calls) (paid_tries q x) (work (paid_tries q x))
-
-json_with_same : (asked : Demands) (q : Terms) (payload x y : List ℕ) → token_of q.policy x ≡ token_of q.policy y → json_with asked q payload x ≡ json_with asked q payload y
-unfolding json_with verdict_of table
-json_with_same asked q payload x y is = rw is refl
-
-json_by_token : (asked : Demands) (q : Terms) (x y : List ℕ) → token_of q.policy x ≡ token_of q.policy y → token_json asked q x ≡ token_json asked q y
-unfolding json_with
-json_by_token asked q x y is = json_with_same asked q (payload_of q x) x y is ∙ ap (λ t. json_with asked q (token_or_none t).payload y) is
-
-pub json_bounded : (asked : Demands) (q : Terms) (l : List ℕ) → token_json asked q (take (q.policy.run.limit + 1) l) ≡ token_json asked q l
-json_bounded asked q l = go (nat_lt q.policy.run.limit (length l)) refl
-  where
-    go : (b : Bool) → nat_lt q.policy.run.limit (length l) ≡ b → token_json asked q (take (q.policy.run.limit + 1) l) ≡ token_json asked q l
-    go true e = let long : q.policy.run.limit < length l = grind (arith, nat_tests, e) in
-        json_by_token asked q (take (q.policy.run.limit + 1) l) l
-        (token_too_long q.policy (take (q.policy.run.limit + 1) l) (omega (arith, length-take-all l (q.policy.run.limit + 1) (omega (arith, long)))) ∙ sym (token_too_long q.policy l long))
-    go false e = let short : length l ≤ q.policy.run.limit = grind (arith, nat_tests, e) in
-        ap (token_json asked q) (take_all (q.policy.run.limit + 1) l (omega (arith, short)))
-
--- the answer looks at a token no further than one octet past the limit, in JSON or in lines
+-- the answer looks at a token no further than one octet past the limit
 pub printed_bounded : (printing : Printing) (e : Option Expectation) (rule : Option Rule) (q : Terms) (l : List ℕ) → (printer_for printing e).token rule q (take (q.policy.run.limit + 1) l) ≡ (printer_for printing e).token rule q l
-printed_bounded Json e rule q l = json_bounded (record { rule = rule; expected = e }) q l
-printed_bounded Lines e rule q l = token_bounded (record { rule = rule; expected = e }) q l
+printed_bounded printing e rule q l = token_bounded printing (record { rule = rule; expected = e }) q l

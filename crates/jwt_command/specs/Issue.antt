@@ -8,27 +8,27 @@ use Rattle.jwt_policy.specs.declared.claim_fault.ClaimFault.{ClaimFault}
 use Rattle.jwt_issue.specs.ClaimSets.{claim_set_of}
 use Rattle.jwt_issue.specs.Options.{OptionParts, issued_by}
 use Rattle.jwt_issue.specs.declared.fault.IssueFault.{IssueFault}
-use Rattle.jwt_output.specs.Faults.{claim_fault_parts, joined_parts, issue_fault_parts}
 use Rattle.jwt_verify.specs.Verdict.{without_line_feed}
-use Rattle.jwt_output.specs.Printed.{Answer, refused}
+use Rattle.jwt_output.specs.Printed.{Answer}
 use Rattle.jwt_command.specs.Documents.{behind, document}
-use Rattle.jwt_output.specs.Refused.{keys_refused, unless_failed}
+use Rattle.jwt_output.specs.Refused.{claims_refused, issue_refused, printed_keys_fault, refused_named, unless_failed}
+use Rattle.jwt_settings.specs.declared.printing.Printing.TheVariants.{Lines}
 
 abbrev pub issued_answer : Result (List ℕ) IssueFault → Answer
 issued_answer (Ok token) = record { text = token; status = 0 }
-issued_answer (Err fault) = refused (joined_parts (issue_fault_parts fault))
+issued_answer (Err fault) = issue_refused fault
 
 abbrev pub of_claims : OptionParts → List KeyParts → Result (List ℕ) ClaimFault → Answer
 of_claims options keys (Ok claims) = issued_answer (issued_by options keys claims)
-of_claims options keys (Err fault) = refused (joined_parts (claim_fault_parts fault))
+of_claims options keys (Err fault) = claims_refused fault
 
 -- of claims, without one line feed at their end
 abbrev pub claims_answer : OptionParts → List KeyParts → List ℕ → Answer
-claims_answer options keys octets = if nat_lt LONGEST_TOKEN (length octets) then refused (codes "TooLong") else of_claims options keys (claim_set_of (without_line_feed true octets))
+claims_answer options keys octets = if nat_lt LONGEST_TOKEN (length octets) then refused_named Lines (codes "TooLong") else of_claims options keys (claim_set_of (without_line_feed true octets))
 
 abbrev pub issue_under : OptionParts → Result KeyList KeysFault → List ℕ → Answer
 issue_under options (Ok set) claims = claims_answer options set.keys claims
-issue_under options (Err fault) claims = keys_refused fault
+issue_under options (Err fault) claims = printed_keys_fault Lines fault
 
 -- of a key set, in hand or the first line of an input, and the claims behind it, by a reader that has failed or not
 abbrev pub issue_answer : OptionParts → Option (List ℕ) → Bool → List ℕ → Answer

@@ -12,7 +12,9 @@ use Rattle.jwt_jws.specs.Forms.{CompactTexts, compact_texts}
 use Rattle.jwt_command.specs.declared.mac.MacFault.{MacFault}
 use Rattle.jwt_command.specs.declared.mac.MacFault.TheVariants.{OutOfMemory, Segments, Base64, Header, AlgMissing, AlgNotAllowed}
 use Rattle.jwt_verify.specs.Verdict.{without_line_feed}
-use Rattle.jwt_output.specs.Printed.{Answer, read_failed, refused}
+use Rattle.jwt_output.specs.Printed.{Answer}
+use Rattle.jwt_output.specs.Refused.{printed_read_fault, refused_named}
+use Rattle.jwt_settings.specs.declared.printing.Printing.TheVariants.{Lines}
 use Rattle.jwt_output.specs.Mac.{Digest, digest_line, key_refused}
 
 -- ---- the key: 1 to 4,096 octets in base64url
@@ -65,12 +67,12 @@ mac_fault_name OutOfMemory = codes "OutOfMemory"
 
 abbrev pub mac_line : Result Digest MacFault → Answer
 mac_line (Ok d) = digest_line d
-mac_line (Err fault) = refused (mac_fault_name fault)
+mac_line (Err fault) = refused_named Lines (mac_fault_name fault)
 
 -- of an input, by a reader that has failed or not; the limit is compared with the whole input
 abbrev pub mac_on : List ℕ → ℕ → Bool → List ℕ → Answer
-mac_on key limit true input = read_failed
-mac_on key limit false input = if nat_lt limit (length input) then refused (codes "TooLong") else mac_line (compact_digest key (without_line_feed true input))
+mac_on key limit true input = printed_read_fault Lines
+mac_on key limit false input = if nat_lt limit (length input) then refused_named Lines (codes "TooLong") else mac_line (compact_digest key (without_line_feed true input))
 
 abbrev pub mac_under : Option (List ℕ) → ℕ → Bool → List ℕ → Answer
 mac_under None limit failed input = key_refused

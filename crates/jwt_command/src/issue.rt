@@ -7,17 +7,18 @@ ghost use Rattle.jwt_text.specs.Intake.{TakesAtMost};
 ghost use Rattle.jwt_command.specs.Stops.{keys_most};
 ghost use Rattle.jwt_command.specs.Issue.{claims_answer, issue_answer, of_claims, issued_answer};
 ghost use Rattle.jwt_issue.specs.ClaimSets.{claim_set_of};
-ghost use Rattle.jwt_output.specs.Refused.{keys_refused, unless_failed};
+ghost use Rattle.jwt_output.specs.Refused.{unless_failed};
 ghost use Rattle.jwt_output.specs.Views.{reply_view};
 
 use crate::documents::{TakenDocument, document};
 use crate::input::line::LineFault;
 use crate::input::whole::{read_input, without_line_feed};
-use crate::subject::{Replied, Subject};
+use crate::subject::{Replied, refused_keys};
 use jwt_issue::{ClaimSet, IssueFault, IssueOptions, issue_by};
 use jwt_keys::{KeySet, KeysFault};
-use jwt_output::{Reply, issue_fault_text, refused_claims};
+use jwt_output::{Reply, printed_read_fault, refused_claims, refused_issue, refused_named};
 use jwt_policy::ClaimFault;
+use jwt_settings::Printing;
 use jwt_text::{LONGEST_KEY_SET, LONGEST_TOKEN, Source, TextFault};
 use std::alloc::{AllocError, Global};
 
@@ -34,12 +35,9 @@ fn of_claims(
     ensures done { IfOk result (λ a. a.status ≢ 3) }
 {
     match issue_by(alloc, options, keys, claims) {
-        Ok(text) => Ok(Reply { text, status: 0 }),
+        Ok(text) => Ok(Reply::of(text, 0)),
         Err(IssueFault::OutOfMemory) => Err(AllocError),
-        Err(fault) => {
-            let name = issue_fault_text(alloc, fault)?;
-            Reply::refused(alloc, name.as_str())
-        }
+        Err(fault) => refused_issue(alloc, fault),
     }
 }
 
@@ -78,24 +76,11 @@ fn on_claims<R: Source>(
     ensures failed { IfOk result (λ a. a.status ≡ 3 → R.failed r.new ≡ true) }
 {
     match read_input(alloc, LONGEST_TOKEN, r) {
-        Err(TextFault::Read) => Reply::line(alloc, "failed Read", 3),
-        Err(TextFault::TooLong) => Reply::refused(alloc, "TooLong"),
+        Err(TextFault::Read) => printed_read_fault(alloc, Printing::Lines),
+        Err(TextFault::TooLong) => refused_named(alloc, Printing::Lines, "TooLong"),
         Err(_) => Err(AllocError),
         Ok(input) => on_text(alloc, options, keys, without_line_feed(input.octets())),
     }
-}
-
-/// The answer that a key set is refused.
-fn on_fault<'a>(
-    alloc: Global,
-    fault: KeysFault,
-    document: TakenDocument<'a>,
-) -> Result<Replied<'a>, AllocError>
-    ensures line { IfOk result (λ a. reply_view a.reply ≡ keys_refused fault) }
-    ensures done { IfOk result (λ a. a.reply.status ≡ 1) }
-{
-    let reply = Reply::refused_keys(alloc, fault.name())?;
-    Ok(Replied::refusing(reply, Subject::Keys(fault, document)))
 }
 
 /// Runs `jwt issue` on an input: the line of a key set, where that isn't in hand, and claims with one line feed behind them or
@@ -116,15 +101,18 @@ pub(crate) fn issue<'a, R: Source>(
 {
     let text = match document(alloc, keys, r, LONGEST_KEY_SET) {
         Ok(text) => text,
-        Err(LineFault::Read) => return Ok(Replied::bare(Reply::line(alloc, "failed Read", 3)?)),
+        Err(LineFault::Read) => {
+            return Ok(Replied::bare(printed_read_fault(alloc, Printing::Lines)?));
+        }
         Err(LineFault::TooLong) => {
-            return on_fault(alloc, KeysFault::TooLong, TakenDocument::Held(&[]));
+            let document = TakenDocument::Held(&[]);
+            return refused_keys(alloc, Printing::Lines, KeysFault::TooLong, document);
         }
         Err(LineFault::OutOfMemory) => return Err(AllocError),
     };
     match KeySet::read(alloc, text.octets()) {
         Ok(keys) => Ok(Replied::bare(on_claims(alloc, options, &keys, r)?)),
         Err(KeysFault::OutOfMemory) => Err(AllocError),
-        Err(fault) => on_fault(alloc, fault, text),
+        Err(fault) => refused_keys(alloc, Printing::Lines, fault, text),
     }
 }

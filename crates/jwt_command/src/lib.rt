@@ -18,7 +18,6 @@ mod jwk;
 mod keys;
 mod mac;
 mod policy;
-mod pretty;
 pub mod run;
 mod show;
 pub mod subject;

@@ -15,7 +15,8 @@ ghost use Rattle.jwt_output.specs.Views.{digest_view, reply_view};
 use crate::input::whole::{read_input, without_line_feed};
 use jwt_jws::{CompactTexts, compact_texts};
 use jwt_mac::{Alg, CountDown, Message, Tag, hmac};
-use jwt_output::{Digest, Reply, digest_line, refused_key};
+use jwt_output::{Digest, Reply, digest_line, printed_read_fault, refused_key, refused_named};
+use jwt_settings::Printing;
 use jwt_text::{LONGEST_TOKEN, Source, TextFault};
 use std::alloc::{AllocError, Global};
 
@@ -148,7 +149,7 @@ fn token_line(alloc: Global, key: &[u8], token: &[u8]) -> Result<Reply, AllocErr
     match token_digest(alloc, key, token) {
         Ok(digest) => digest_line(alloc, &digest),
         Err(MacFault::OutOfMemory) => Err(AllocError),
-        Err(fault) => Reply::refused(alloc, fault_name(fault)),
+        Err(fault) => refused_named(alloc, Printing::Lines, fault_name(fault)),
     }
 }
 
@@ -185,8 +186,8 @@ pub(crate) fn mac<R: Source>(
         return refused_key(alloc);
     };
     match read_input(alloc, limit as u32, r) {
-        Err(TextFault::Read) => Reply::line(alloc, "failed Read", 3),
-        Err(TextFault::TooLong) => Reply::refused(alloc, "TooLong"),
+        Err(TextFault::Read) => printed_read_fault(alloc, Printing::Lines),
+        Err(TextFault::TooLong) => refused_named(alloc, Printing::Lines, "TooLong"),
         Err(_) => Err(AllocError),
         Ok(input) => token_line(alloc, key.as_slice(), without_line_feed(input.octets())),
     }

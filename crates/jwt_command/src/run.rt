@@ -15,7 +15,6 @@ use crate::jwk::{jwk, secret};
 use crate::keys::keys;
 use crate::mac::{mac, mac_in_hand};
 use crate::policy::policy;
-use crate::pretty::show_pretty;
 use crate::show::show;
 use crate::subject::{Ran, Replied, give_alone, give_no_memory, give_replied, give_wrong};
 use crate::verify::{VerifyOptions, verify};
@@ -24,6 +23,7 @@ use jwt_issue::IssueOptions;
 use jwt_mac::Verifier;
 pub use jwt_output::lack_memory;
 use jwt_output::{Reply, printed_file_fault};
+use jwt_settings::Printing;
 use jwt_text::{Sink, Source};
 use jwt_words::{Command, Held, WordsFault, read_words, unread};
 use std::alloc::{AllocError, Global};
@@ -186,8 +186,8 @@ fn reply_to<'a, R: Source>(
             Ok(Replied::bare(mac_in_hand(alloc, held.key, limit, r)?))
         }
         Command::Keys { printing } => keys(alloc, printing, r),
-        Command::Show { printing, limit } => show(alloc, printing, limit, r),
-        Command::Pretty(order) => show_pretty(alloc, order, r),
+        Command::Show { printing, limit } => show(alloc, printing, None, limit, r),
+        Command::Pretty(order) => { show(alloc, Printing::Lines, Some(order), order.limit, r) }
         Command::Verify {
             printing,
             now,

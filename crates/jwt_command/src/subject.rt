@@ -8,6 +8,7 @@ use crate::documents::TakenDocument;
 use jwt_access::AccessFault;
 use jwt_jws::FormFault;
 use jwt_keys::KeysFault;
+use jwt_output::reasons::Cause;
 use jwt_output::{
     Reply, give, lack_memory, printed_access_fault, printed_keys_fault, printed_policy_fault, send,
 };
@@ -39,8 +40,24 @@ pub struct Ran<'a> {
     /// The status.
     pub status: u8,
 
+    /// What the answer refuses or denies something for; nothing of `verify --lines`, which has an answer for each line.
+    pub cause: Cause,
+
     /// The document that was refused; none where none was, or where the command reads none of these.
     pub subject: Option<Subject<'a>>,
+}
+
+impl Ran<'_> {
+    /// No answer refuses a document.
+    pub(crate) fn bare<'a>(status: u8) -> Ran<'a>
+        ensures status { result.status ≡ status }
+    {
+        Ran {
+            status,
+            cause: Cause::None,
+            subject: None,
+        }
+    }
 }
 
 /// An answer, and the document that is refused by it, if one is.
@@ -61,14 +78,16 @@ impl<'a> Replied<'a> {
         }
     }
 
-    /// This document is refused by it.
-    pub(crate) fn refusing(reply: Reply, subject: Subject<'a>) -> Replied<'a>
+    /// This document is refused by it, where its status is 1.
+    pub(crate) fn on(reply: Reply, subject: Subject<'a>) -> Replied<'a>
         ensures reply { result.reply ≡ reply }
     {
-        Replied {
-            reply,
-            subject: Some(subject),
-        }
+        let subject = if reply.status == 1 {
+            Some(subject)
+        } else {
+            None
+        };
+        Replied { reply, subject }
     }
 }
 
@@ -83,7 +102,7 @@ pub(crate) fn refused_policy<'a>(
     ensures done { IfOk result (λ a. a.reply.status ≡ 1) }
 {
     let reply = printed_policy_fault(alloc, printing, &fault)?;
-    Ok(Replied::refusing(reply, Subject::Policy(fault, document)))
+    Ok(Replied::on(reply, Subject::Policy(fault, document)))
 }
 
 /// A key set is refused.
@@ -97,7 +116,7 @@ pub(crate) fn refused_keys<'a>(
     ensures done { IfOk result (λ a. a.reply.status ≡ 1) }
 {
     let reply = printed_keys_fault(alloc, printing, &fault)?;
-    Ok(Replied::refusing(reply, Subject::Keys(fault, document)))
+    Ok(Replied::on(reply, Subject::Keys(fault, document)))
 }
 
 /// The access rule in hand is refused.
@@ -112,7 +131,7 @@ pub(crate) fn refused_rule<'a>(
 {
     let reply = printed_access_fault(alloc, printing, &fault)?;
     let document = TakenDocument::Held(access.unwrap_or(&[]));
-    Ok(Replied::refusing(reply, Subject::Access(fault, document)))
+    Ok(Replied::on(reply, Subject::Access(fault, document)))
 }
 
 /// The answer to a token, and the fault of its form, if it is refused for that.
@@ -123,28 +142,12 @@ pub(crate) struct TokenReply {
 }
 
 impl TokenReply {
-    /// With the token itself, where it is refused or denied.
+    /// With the token itself.
     pub(crate) fn on<'a>(self, token: TakenDocument<'a>) -> Replied<'a>
         ensures reply { result.reply ≡ self.reply }
     {
         let TokenReply { reply, fault } = self;
-        let subject = if reply.status == 1 {
-            Some(Subject::Token(fault, token))
-        } else {
-            None
-        };
-        Replied { reply, subject }
-    }
-
-    /// With the token itself, where its form has a fault.
-    pub(crate) fn of_form<'a>(self, token: TakenDocument<'a>) -> Replied<'a>
-        ensures reply { result.reply ≡ self.reply }
-    {
-        let TokenReply { reply, fault } = self;
-        match fault {
-            Some(fault) => Replied::refusing(reply, Subject::Token(Some(fault), token)),
-            None => Replied::bare(reply),
-        }
+        Replied::on(reply, Subject::Token(fault, token))
     }
 }
 
@@ -159,14 +162,15 @@ pub(crate) fn give_replied<'a, W: Sink>(
         (W.contents w.old) (W.contents w.new) (W.failed w.new) result.status) }
 {
     match answer {
-        Ok(Replied { reply, subject }) => Ran {
-            status: give(w, Ok(reply)),
-            subject,
-        },
-        Err(error) => Ran {
-            status: give(w, Err(error)),
-            subject: None,
-        },
+        Ok(Replied { reply, subject }) => {
+            let cause = reply.cause;
+            Ran {
+                status: give(w, Ok(reply)),
+                cause,
+                subject,
+            }
+        }
+        Err(_) => Ran::bare(lack_memory(w)),
     }
 }
 
@@ -177,10 +181,7 @@ pub(crate) fn give_alone<'a, W: Sink>(w: &mut W, answer: Result<Reply, AllocErro
     ensures err { IfErr answer (λ _. Prints out_of_memory
         (W.contents w.old) (W.contents w.new) (W.failed w.new) result.status) }
 {
-    Ran {
-        status: give(w, answer),
-        subject: None,
-    }
+    Ran::bare(give(w, answer))
 }
 
 /// Prints that an allocation was refused.
@@ -188,10 +189,7 @@ pub(crate) fn give_no_memory<'a, W: Sink>(w: &mut W) -> Ran<'a>
     ensures printed { Prints out_of_memory
         (W.contents w.old) (W.contents w.new) (W.failed w.new) result.status }
 {
-    Ran {
-        status: lack_memory(w),
-        subject: None,
-    }
+    Ran::bare(lack_memory(w))
 }
 
 /// Prints what is said of wrong words.
@@ -199,8 +197,5 @@ pub(crate) fn give_wrong<'a, W: Sink>(w: &mut W, text: &str) -> Ran<'a>
     ensures printed { Prints (record { text = text.now; status = 2 })
         (W.contents w.old) (W.contents w.new) (W.failed w.new) result.status }
 {
-    Ran {
-        status: send(w, text.as_bytes(), 2),
-        subject: None,
-    }
+    Ran::bare(send(w, text.as_bytes(), 2))
 }

@@ -8,10 +8,9 @@ ghost use Rattle.jwt_command.specs.Access.{rule_in_hand, under_rule};
 ghost use Rattle.jwt_command.specs.Stops.{keys_most, token_most, verify_most};
 ghost use Rattle.jwt_output.specs.verdicts.Printer.{unless_read_failed};
 ghost use Rattle.jwt_command.specs.Verify.{keys_answer, payload_in, terms_of_keys, verify_answer};
-ghost use Rattle.jwt_output.specs.verdicts.Verdicts.{token_answer, token_json};
 ghost use Rattle.jwt_words.specs.Seen.{held_view};
 ghost use Rattle.jwt_output.specs.Views.{reply_view};
-ghost use Rattle.jwt_command.specs.Views.{asked_of, rule_view, told_by};
+ghost use Rattle.jwt_command.specs.Views.{rule_view, told_by};
 
 use crate::access::rule_in_hand;
 use crate::documents::{TakenDocument, document, read_document};
@@ -23,7 +22,7 @@ use jwt_jws::{FormFault, Signed};
 use jwt_keys::{KeySet, KeysFault};
 use jwt_mac::{Budget, CountDown, Verifier};
 use jwt_output::printed_read_fault;
-use jwt_output::verdicts::{report_json, report_line};
+use jwt_output::verdicts::printed_report;
 use jwt_policy::{Policy, PolicyFault};
 use jwt_settings::{Expectation, Moment, Printing};
 use jwt_text::{LONGEST_KEY_SET, LONGEST_POLICY, Scratch, Source};
@@ -72,29 +71,6 @@ fn form_fault(verdict: &Verdict<'_>) -> Option<FormFault> {
     }
 }
 
-/// The verdict on a token in hand, in lines.
-fn on_octets_in_lines(
-    alloc: Global,
-    terms: &Terms<'_, '_, '_>,
-    telling: &Telling<'_>,
-    token: &[u8],
-) -> Result<TokenReply, AllocError>
-    ensures line { IfOk result (λ a. reply_view a.reply
-        ≡ token_answer (asked_of telling.now) (terms_meant (λ b. meaning (b.vtable, b.value)) terms.now) token.now) }
-    ensures done { IfOk result (λ a. a.reply.status ≢ 3) }
-{
-    let mut budget = CountDown::new(terms.policy.work());
-    let mut scratch = Scratch::new(alloc);
-    tells_reports();
-    let judged = judge_under(alloc, token, terms, &mut budget, &mut scratch);
-    let demands = telling.demands(terms);
-    let reply = report_line(alloc, &judged.report, &demands, budget.octets())?;
-    Ok(TokenReply {
-        reply,
-        fault: form_fault(&judged.report.verdict),
-    })
-}
-
 /// The payload of the token that was read; no octets where none was.
 fn payload_in<'t>(token: &'t Option<Signed<'_>>) -> &'t [u8]
     ensures { result.now ≡ payload_in token.now }
@@ -105,32 +81,7 @@ fn payload_in<'t>(token: &'t Option<Signed<'_>>) -> &'t [u8]
     }
 }
 
-/// The verdict on a token in hand, in JSON.
-fn on_octets_in_json(
-    alloc: Global,
-    terms: &Terms<'_, '_, '_>,
-    telling: &Telling<'_>,
-    token: &[u8],
-) -> Result<TokenReply, AllocError>
-    ensures line { IfOk result (λ a. reply_view a.reply
-        ≡ token_json (asked_of telling.now) (terms_meant (λ b. meaning (b.vtable, b.value)) terms.now) token.now) }
-    ensures done { IfOk result (λ a. a.reply.status ≢ 3) }
-{
-    let mut count = CountDown::new(terms.policy.work());
-    let mut scratch = Scratch::new(alloc);
-    tells_reports();
-    tells_tokens();
-    let judged = judge_under(alloc, token, terms, &mut count, &mut scratch);
-    let payload = payload_in(&judged.token);
-    let demands = telling.demands(terms);
-    let reply = report_json(alloc, &judged.report, &demands, payload, count.octets())?;
-    Ok(TokenReply {
-        reply,
-        fault: form_fault(&judged.report.verdict),
-    })
-}
-
-/// The verdict on a token in hand, in JSON or in lines.
+/// The verdict on a token in hand.
 pub(crate) fn on_octets(
     alloc: Global,
     terms: &Terms<'_, '_, '_>,
@@ -142,10 +93,26 @@ pub(crate) fn on_octets(
         (terms_meant (λ b. meaning (b.vtable, b.value)) terms.now) token.now) }
     ensures done { IfOk result (λ a. a.reply.status ≢ 3) }
 {
-    match telling.printing {
-        Printing::Json => on_octets_in_json(alloc, terms, telling, token),
-        Printing::Lines => on_octets_in_lines(alloc, terms, telling, token),
-    }
+    let mut budget = CountDown::new(terms.policy.work());
+    let mut scratch = Scratch::new(alloc);
+    tells_reports();
+    tells_tokens();
+    let judged = judge_under(alloc, token, terms, &mut budget, &mut scratch);
+    let payload = payload_in(&judged.token);
+    let demands = telling.demands(terms);
+    let work = budget.octets();
+    let reply = printed_report(
+        alloc,
+        telling.printing,
+        &judged.report,
+        &demands,
+        payload,
+        work,
+    )?;
+    Ok(TokenReply {
+        reply,
+        fault: form_fault(&judged.report.verdict),
+    })
 }
 
 /// The verdict on the token, which is all that is left of the input.

@@ -31,6 +31,7 @@ use crate::verify::{on_octets, terms_at};
 use jwt_access::AccessFault;
 use jwt_keys::{KeySet, KeysFault};
 use jwt_mac::Verifier;
+use jwt_output::reasons::Cause;
 use jwt_output::{give, lack_memory, printed_read_fault};
 use jwt_policy::{Policy, PolicyFault};
 use jwt_settings::{Expectation, Moment, Printing};
@@ -311,6 +312,7 @@ fn lines_in_hand<'a, R: Source, W: Sink, C: Clock>(
             };
             Ran {
                 status: answer_lines(alloc, &shared, clock, r, w),
+                cause: Cause::None,
                 subject: None,
             }
         }

@@ -1,6 +1,6 @@
 //! The command `issue`.
 use crate::examples::VERIFY;
-use crate::runs::{CommandRow, Printed, assert_ran, assert_rows, joined, ran, ran_holding};
+use crate::runs::{Printed, assert_ran, assert_rows, joined, ran, ran_holding};
 use jwt_command::documents::Held;
 use jwt_support::cases::{KEYS_A, KEYS_Z, KEYS_ZA};
 use jwt_support::examples::filled;
@@ -10,42 +10,12 @@ use std::test::Fail;
 
 const COMPACT: &[&str] = &["jwt", "issue", "--alg", "HS256", "--typ", "JWT"];
 
-static REFUSALS: [CommandRow; 5] = [
-    CommandRow {
-        words: COMPACT,
-        input: &["{}", "{}"],
-        prints: &["refused Keys NotKeySet"],
-        status: 1,
-    },
-    CommandRow {
-        words: COMPACT,
-        input: &[r#"{"keys":[]}"#, "{}"],
-        prints: &["refused NoKey"],
-        status: 1,
-    },
-    CommandRow {
-        words: COMPACT,
-        input: &[KEYS_Z, r#"{"exp":"x"}"#],
-        prints: &[r#"refused ClaimKind claim="exp""#],
-        status: 1,
-    },
-    CommandRow {
-        words: &["jwt", "issue", "--alg", "RS256"],
-        input: &[KEYS_Z, "{}"],
-        prints: &["refused AlgNotHmac sig=0"],
-        status: 1,
-    },
-    CommandRow {
-        words: &["jwt", "issue", "--alg", "none"],
-        input: &[KEYS_Z, "{}"],
-        prints: &[
-            "error: invalid value 'none' for '--alg <A>'",
-            "  [possible values: HS256, HS384, HS512]",
-            "",
-            "For more information, try '--help'.",
-        ],
-        status: 2,
-    },
+static REFUSALS: [&str; 5] = [
+    "jwt issue --alg HS256 --typ JWT|{}<LF>{}|refused Keys NotKeySet|1",
+    r#"jwt issue --alg HS256 --typ JWT|{"keys":[]}<LF>{}|refused NoKey|1"#,
+    r#"jwt issue --alg HS256 --typ JWT|{"keys":[{"kty":"oct","k":"<ZEROS>"}]}<LF>{"exp":"x"}|refused ClaimKind claim="exp"|1"#,
+    r#"jwt issue --alg RS256|{"keys":[{"kty":"oct","k":"<ZEROS>"}]}<LF>{}|refused AlgNotHmac sig=0|1"#,
+    r#"jwt issue --alg none|{"keys":[{"kty":"oct","k":"<ZEROS>"}]}<LF>{}|error: invalid value 'none' for '--alg <A>'<LF>  [possible values: HS256, HS384, HS512]<LF><LF>For more information, try '--help'.|2"#,
 ];
 
 /// What `issue` prints of words, a key set and claims.

@@ -116,63 +116,34 @@ fn a_read_of_jwk_that_fails_ends_with_status_3(rt: HostRuntime) -> Result<(), Fa
     )
 }
 
+/// The key set of a secret of the octets 0 to 31.
+const SET_OF_32: &str =
+    r#"{"keys":[{"alg":"HS256","k":"AAECAwQFBgcICQoLDA0ODxAREhMUFRYXGBkaGxwdHh8","kid":"WqjPPRvAP8oYbAqCwMErhzTg-Quaz-vLx_cef07yhOs","kty":"oct"}]}"#;
+
 /// The JWK of a secret of zeros alone.
 const ZEROS: &str =
     r#"{"alg":"HS256","k":"AAAAAAAAAAAAAAAAAAAAAAAAAAAAAAAAAAAAAAAAAAA","kid":"9nnxVaRYos6pwySYZALWRL64fgG5CMX9No3tAqd5urU","kty":"oct"}"#;
 
-/// A new secret: how many octets the random source gave, its algorithm, and what is printed.
-#[derive(Clone, Copy)]
-struct Secret {
-    given: usize,
-    alg: &'static str,
-    prints: &'static str,
-    status: u8,
-}
-
-static SECRETS: [Secret; 7] = [
-    Secret {
-        given: 32,
-        alg: "HS256",
-        prints: r#"{"keys":[{"alg":"HS256","k":"AAECAwQFBgcICQoLDA0ODxAREhMUFRYXGBkaGxwdHh8","kid":"WqjPPRvAP8oYbAqCwMErhzTg-Quaz-vLx_cef07yhOs","kty":"oct"}]}"#,
-        status: 0,
-    },
-    Secret {
-        given: 48,
-        alg: "HS384",
-        prints: r#"{"keys":[{"alg":"HS384","k":"AAECAwQFBgcICQoLDA0ODxAREhMUFRYXGBkaGxwdHh8gISIjJCUmJygpKissLS4v","kid":"HeT5V2LCp6E2-0VI3-gT8sbre9L0I-DoroxqST1ZilU","kty":"oct"}]}"#,
-        status: 0,
-    },
-    Secret {
-        given: 64,
-        alg: "HS512",
-        prints: r#"{"keys":[{"alg":"HS512","k":"AAECAwQFBgcICQoLDA0ODxAREhMUFRYXGBkaGxwdHh8gISIjJCUmJygpKissLS4vMDEyMzQ1Njc4OTo7PD0-Pw","kid":"C78xEqPp1b_LswE8KyDQ_0WikUVN-jmDtHmYDwUNRpw","kty":"oct"}]}"#,
-        status: 0,
-    },
+/// A new secret: how many octets the random source gave, its algorithm, the status, and what is printed.
+static SECRETS: [(usize, &str, u8, &str); 7] = [
+    (32, "HS256", 0, SET_OF_32),
+    (
+        48,
+        "HS384",
+        0,
+        r#"{"keys":[{"alg":"HS384","k":"AAECAwQFBgcICQoLDA0ODxAREhMUFRYXGBkaGxwdHh8gISIjJCUmJygpKissLS4v","kid":"HeT5V2LCp6E2-0VI3-gT8sbre9L0I-DoroxqST1ZilU","kty":"oct"}]}"#,
+    ),
+    (
+        64,
+        "HS512",
+        0,
+        r#"{"keys":[{"alg":"HS512","k":"AAECAwQFBgcICQoLDA0ODxAREhMUFRYXGBkaGxwdHh8gISIjJCUmJygpKissLS4vMDEyMzQ1Njc4OTo7PD0-Pw","kid":"C78xEqPp1b_LswE8KyDQ_0WikUVN-jmDtHmYDwUNRpw","kty":"oct"}]}"#,
+    ),
     // Fewer than are asked for, by one and all.
-    Secret {
-        given: 31,
-        alg: "HS256",
-        prints: "failed Random",
-        status: 3,
-    },
-    Secret {
-        given: 63,
-        alg: "HS512",
-        prints: "failed Random",
-        status: 3,
-    },
-    Secret {
-        given: 0,
-        alg: "HS256",
-        prints: "failed Random",
-        status: 3,
-    },
-    Secret {
-        given: 64,
-        alg: "HS256",
-        prints: "failed Random",
-        status: 3,
-    },
+    (31, "HS256", 3, "failed Random"),
+    (63, "HS512", 3, "failed Random"),
+    (0, "HS256", 3, "failed Random"),
+    (64, "HS256", 3, "failed Random"),
 ];
 
 /// Nothing is read.
@@ -183,14 +154,14 @@ fn a_new_secret_is_what_the_random_source_gave(rt: HostRuntime) -> Result<(), Fa
     for at in 0..64_u8 {
         octets[at as usize] = at;
     }
-    for row in &SECRETS {
+    for &(given, alg, status, prints) in &SECRETS {
         let held = Held {
-            random: octets.get(..row.given),
+            random: octets.get(..given),
             ..Held::none()
         };
         let mut r = Drip::new(b"{", 0);
-        let found = ran_holding(alloc, &["jwt", "jwk", "--new", row.alg], held, &mut r)?;
-        assert_ran(&rt, alloc, &found, &[row.prints], row.status)?;
+        let found = ran_holding(alloc, &["jwt", "jwk", "--new", alg], held, &mut r)?;
+        assert_ran(&rt, alloc, &found, &[prints], status)?;
         assert!(rt; !r.failed);
     }
     Ok(())
@@ -198,11 +169,7 @@ fn a_new_secret_is_what_the_random_source_gave(rt: HostRuntime) -> Result<(), Fa
 
 /// Secrets of files: how many octets a file holds, their algorithm, and with what the answer begins.
 static KEPT: [(usize, &str, &str); 8] = [
-    (
-        32,
-        "HS256",
-        r#"{"keys":[{"alg":"HS256","k":"AAECAwQFBgcICQoLDA0ODxAREhMUFRYXGBkaGxwdHh8","kid":"WqjPPRvAP8oYbAqCwMErhzTg-Quaz-vLx_cef07yhOs","kty":"oct"}]}"#,
-    ),
+    (32, "HS256", SET_OF_32),
     (
         64,
         "HS256",

@@ -3,8 +3,8 @@ use jwt_access::AccessRule;
 use jwt_jws::parse;
 use jwt_keys::KeySet;
 use jwt_output::reasons::{
-    Reason, access_reason, around_token, claims_detail, keys_reason, policy_reason, token_reason,
-    token_sentences,
+    Cause, Reason, access_reason, around_token, claims_detail, keys_reason, policy_reason,
+    token_reason, token_sentences,
 };
 use jwt_policy::Policy;
 use jwt_settings::Moment;
@@ -12,75 +12,33 @@ use std::alloc::{AllocError, Global};
 use std::process::Abort;
 use std::test::Fail;
 
-/// Documents, and why they are refused; an empty reason of one that isn't.
-static POLICIES: [(&str, &str); 14] = [
-    (r#"{"algs":["HS256"]}"#, ""),
-    ("", "line 1, column 1: no JSON text goes on so"),
-    ("[]", "it is no JSON object"),
-    (
-        "{\n  \"algs\": [\"HS256\"],\n  \"limit\": 07\n}",
-        "line 3, column 12: no JSON text goes on so",
-    ),
-    (
-        "{\"algs\":[\"HS256\"]}\n{}",
-        "line 2, column 1: no JSON text goes on so",
-    ),
-    (
-        "{\"algs\":[\"HS256\"],\n\"mode\":\"any\",\"mode\":\"any\"}",
-        "line 2, column 14: this name stands twice in its object",
-    ),
-    (
-        r#"{"algs":["HS256"],"leeway":86401}"#,
-        r#""leeway" is a whole number from 0 to 86,400 seconds"#,
-    ),
-    (
-        r#"{"algs":["HS256"],"max_age":0}"#,
-        r#""max_age" is a whole number from 1 to 4,294,967,295 seconds"#,
-    ),
+/// Documents, and why they are refused, with a bar between the two; an empty reason of one that isn't.
+static POLICIES: [&str; 14] = [
+    r#"{"algs":["HS256"]}|"#,
+    "|line 1, column 1: no JSON text goes on so",
+    "[]|it is no JSON object",
+    "{\n  \"algs\": [\"HS256\"],\n  \"limit\": 07\n}|line 3, column 12: no JSON text goes on so",
+    "{\"algs\":[\"HS256\"]}\n{}|line 2, column 1: no JSON text goes on so",
+    "{\"algs\":[\"HS256\"],\n\"mode\":\"any\",\"mode\":\"any\"}|line 2, column 14: this name stands twice in its object",
+    r#"{"algs":["HS256"],"leeway":86401}|"leeway" is a whole number from 0 to 86,400 seconds"#,
+    r#"{"algs":["HS256"],"max_age":0}|"max_age" is a whole number from 1 to 4,294,967,295 seconds"#,
     // (a carriage return ends no line)
-    ("{\r\r\n\r7", "line 2, column 2: no JSON text goes on so"),
-    (
-        r#"{"algs":["HS256"],"need_kid":1}"#,
-        r#""need_kid" is true or false"#,
-    ),
-    (
-        r#"{"algs":[]}"#,
-        r#""algs" is a list of names of algorithms, with at least one"#,
-    ),
-    (
-        r#"{"algs":["HS256"],"max_calls":1}"#,
-        r#""max_calls" is a whole number from 0 to 32,768, in version 2 alone"#,
-    ),
-    (
-        r#"{"algs":["HS256"],"lim\u200eit":1}"#,
-        r#""lim\u200eit" is no member of a policy"#,
-    ),
-    (
-        r#"{"algs":["HS256"],"mode":"some"}"#,
-        r#""mode" is "any" or "all""#,
-    ),
+    "{\r\r\n\r7|line 2, column 2: no JSON text goes on so",
+    r#"{"algs":["HS256"],"need_kid":1}|"need_kid" is true or false"#,
+    r#"{"algs":[]}|"algs" is a list of names of algorithms, with at least one"#,
+    r#"{"algs":["HS256"],"max_calls":1}|"max_calls" is a whole number from 0 to 32,768, in version 2 alone"#,
+    r#"{"algs":["HS256"],"lim\u200eit":1}|"lim\u200eit" is no member of a policy"#,
+    r#"{"algs":["HS256"],"mode":"some"}|"mode" is "any" or "all""#,
 ];
 
-static KEY_SETS: [(&str, &str); 7] = [
-    (r#"{"keys":[]}"#, ""),
-    (r#"{"keys":7}"#, r#"it is no object with a list "keys""#),
-    (
-        "{\"keys\":[\n{\"kty\":\"oct\",\"k\":\"AA\" \"x\":1}]}",
-        "line 2, column 23: no JSON text goes on so",
-    ),
-    (
-        "{\"keys\":[{\"k\":\"AA\"},\n{\"a\":{\"k\":1},\"k\":\"AA\",\"k\":\"AA\"}]}",
-        "line 2, column 23: this name stands twice in its object",
-    ),
-    (
-        "{\"keys\":[\"\t\"]}",
-        "line 1, column 10: no JSON text goes on so",
-    ),
-    ("{\"keys\":[}", "line 1, column 10: no JSON text goes on so"),
-    (
-        "-----BEGIN PUBLIC KEY-----\n",
-        "it is PEM: jwt jwk --file FILE makes a key set of it",
-    ),
+static KEY_SETS: [&str; 7] = [
+    r#"{"keys":[]}|"#,
+    r#"{"keys":7}|it is no object with a list "keys""#,
+    "{\"keys\":[\n{\"kty\":\"oct\",\"k\":\"AA\" \"x\":1}]}|line 2, column 23: no JSON text goes on so",
+    "{\"keys\":[{\"k\":\"AA\"},\n{\"a\":{\"k\":1},\"k\":\"AA\",\"k\":\"AA\"}]}|line 2, column 23: this name stands twice in its object",
+    "{\"keys\":[\"\t\"]}|line 1, column 10: no JSON text goes on so",
+    r#"{"keys":[}|line 1, column 10: no JSON text goes on so"#,
+    "-----BEGIN PUBLIC KEY-----\n|it is PEM: jwt jwk --file FILE makes a key set of it",
 ];
 
 /// Texts that are no JSON, and the column, in their one line, at which they can't be, or aren't read as, JSON.
@@ -116,117 +74,80 @@ static OCTETS: [(&[u8], &str); 4] = [
 ];
 
 /// Answers, and the beginning of what is said of the token; an empty one where nothing is.
-static ANSWERS: [(&str, &str); 9] = [
+static ANSWERS: [(&str, &str, &str); 7] = [
+    ("refused", "Expired", "the moment is at or after"),
+    ("refused", "Base64", "a text is no base64url"),
+    ("refused", "NoKey", "no key of the set"),
+    ("denied", "ScopeMissing", "this scope isn't granted"),
+    ("denied", "ClaimMissing", "this claim is absent"),
     (
-        "refused Expired tries=1 work=295\n",
-        "the moment is at or after",
-    ),
-    (
-        "refused Base64 part=signature sig=0 tries=0 work=0\n",
-        "a text is no base64url",
-    ),
-    (
-        r#"{"verdict":"refused","fault":"NoKey","signatures":[]}"#,
-        "no key of the set",
-    ),
-    (
-        "denied ScopeMissing scope=\"a\" sig=0\n",
-        "this scope isn't granted",
-    ),
-    (
-        r#"{"verdict":"denied","denial":"ClaimMissing","claim":"a"}"#,
-        "this claim is absent",
-    ),
-    (
-        "refused ClaimMissing claim=\"a\"\n",
+        "refused",
+        "ClaimMissing",
         "a claim that the policy asks for",
     ),
-    ("accepted sig=0 key=0 tries=1 work=295\n", ""),
-    ("refused Policy Json\n", ""),
-    (
-        r#"{"verdict":"refused","document":"keys","fault":"Json"}"#,
-        "",
-    ),
+    ("accepted", "", ""),
 ];
 
 /// Tokens, and the beginning of what is said of what stands around them; an empty one where nothing is.
-static AROUND: [(&str, &str); 4] = [
-    ("e30.e30.", ""),
-    ("e30.e30.\n", "it ends in a line feed"),
-    ("Bearer e30.e30.", "`Bearer ` stands in front"),
-    ("", ""),
+static AROUND: [&str; 4] = [
+    "e30.e30.|",
+    "e30.e30.\n|it ends in a line feed",
+    "Bearer e30.e30.|`Bearer ` stands in front",
+    "|",
 ];
 
-static RULES: [(&str, &str); 3] = [
-    ("{}", ""),
-    (
-        r#"{"scope":["a"]}"#,
-        r#""scope" is no member of an access rule, or is of another kind"#,
-    ),
-    (
-        r#"{"scopes":[],"scopes":[]}"#,
-        "line 1, column 14: this name stands twice in its object",
-    ),
+static RULES: [&str; 3] = [
+    "{}|",
+    r#"{"scope":["a"]}|"scope" is no member of an access rule, or is of another kind"#,
+    r#"{"scopes":[],"scopes":[]}|line 1, column 14: this name stands twice in its object"#,
 ];
 
 /// Tokens; of those that aren't in JSON form, and of those that are refused for what they hold, no reason is given.
-static TOKENS: [(&str, &str); 5] = [
-    ("", ""),
-    ("e30.e30.", ""),
-    (
-        "{\"payload\":\"e30\",\n\"signatures\":[}",
-        "line 2, column 15: no JSON text goes on so",
-    ),
-    (
-        "{\"payload\":\"e30\",\"payload\":\"e30\",\"signature\":\"\"}",
-        "line 1, column 18: this name stands twice in its object",
-    ),
-    ("{\"payload\":7,\"signature\":\"\"}", ""),
+static TOKENS: [&str; 5] = [
+    "|",
+    "e30.e30.|",
+    "{\"payload\":\"e30\",\n\"signatures\":[}|line 2, column 15: no JSON text goes on so",
+    r#"{"payload":"e30","payload":"e30","signature":""}|line 1, column 18: this name stands twice in its object"#,
+    r#"{"payload":7,"signature":""}|"#,
 ];
 
 /// Policies, and why they are refused, as a JSON object.
-static POLICIES_IN_JSON: [(&str, &str); 3] = [
-    (r#"{"algs":["HS256"]}"#, ""),
-    (
-        "{\"algs\":[\"HS256\"],}",
-        r#"{"document":"policy","line":1,"column":19,"reason":"no JSON text goes on so"}"#,
-    ),
-    (
-        r#"{"algs":["HS256"],"need_kid":1}"#,
-        r#"{"document":"policy","reason":"\"need_kid\" is true or false"}"#,
-    ),
+static POLICIES_IN_JSON: [&str; 3] = [
+    r#"{"algs":["HS256"]}|"#,
+    r#"{"algs":["HS256"],}|{"document":"policy","line":1,"column":19,"reason":"no JSON text goes on so"}"#,
+    r#"{"algs":["HS256"],"need_kid":1}|{"document":"policy","reason":"\"need_kid\" is true or false"}"#,
 ];
 
 /// Answers, tokens with such claims, and what these have to do with the fault at the moment 20.
-static DETAILS: [(&str, &str, &str); 8] = [
+static DETAILS: [(&str, &str, &str, &str); 8] = [
     (
-        r#"refused Expired tries=1 work=7"#,
+        "refused",
+        "Expired",
         "e30.eyJleHAiOjV9.",
         r#" Its `exp` was 15 seconds before the moment of the verdict."#,
     ),
     (
-        r#"{"verdict":"refused","fault":"Audience"}"#,
+        "refused",
+        "Audience",
         "e30.eyJhdWQiOiJh4oCuYiJ9.",
         r#" Its `aud` is "a\u202eb"."#,
     ),
     (
-        r#"refused Audience tries=1 work=7"#,
+        "refused",
+        "Audience",
         "e30.eyJhdWQiOlsiYSIsImIiLCJjIiwiZCIsImUiXX0.",
         r#" Its `aud` is ["a", "b", "c", "d", ..]."#,
     ),
     (
-        r#"refused Audience tries=1 work=7"#,
+        "refused",
+        "Audience",
         "e30.eyJhdWQiOltdfQ.",
         r#" Its `aud` is []."#,
     ),
-    (r#"refused Expired tries=1 work=7"#, "e30.e30.", r#""#),
-    (
-        r#"refused NotYet tries=1 work=7"#,
-        "e30.eyJleHAiOjV9.",
-        r#""#,
-    ),
-    (r#"denied Expired"#, "e30.eyJleHAiOjV9.", r#""#),
-    (r#"refused Expired tries=1 work=7"#, "e30.W10.", r#""#),
+    ("refused", "Expired", "e30.e30.", r#""#),
+    ("refused", "NotYet", "e30.eyJleHAiOjV9.", r#""#),
+    ("denied", "Expired", "e30.eyJleHAiOjV9.", r#""#),
+    ("refused", "Expired", "e30.W10.", r#""#),
 ];
 
 /// Why a policy is refused; none where it isn't.
@@ -277,13 +198,9 @@ fn json(alloc: Global, document: &str) -> Result<String, Fail> {
 }
 
 /// Asserts the reason of each document of this kind.
-fn assert_reasons(
-    rt: &impl Abort,
-    alloc: Global,
-    kind: &str,
-    rows: &[(&str, &str)],
-) -> Result<(), Fail> {
-    for &(document, wanted) in rows {
+fn assert_reasons(rt: &impl Abort, alloc: Global, kind: &str, rows: &[&str]) -> Result<(), Fail> {
+    for row in rows {
+        let (document, wanted) = row.split_once('|').ok_or("no bar")?;
         let found = reason(alloc, kind, document)?;
         assert_eq!(rt; found.as_str(), wanted, "at {document}");
     }
@@ -320,14 +237,15 @@ fn a_place_is_the_first_that_is_no_json(rt: HostRuntime) -> Result<(), Fail> {
 /// A token that is refused or denied is told with what that means and what to do, and with what stands around it.
 #[test]
 fn a_refused_token_is_told_with_what_to_do(rt: HostRuntime) -> Result<(), Fail> {
-    for &(answer, wanted) in &ANSWERS {
-        let found = token_sentences(answer.as_bytes()).unwrap_or("");
+    for &(verdict, fault, wanted) in &ANSWERS {
+        let found = token_sentences(Cause::of(verdict, fault)).unwrap_or("");
         assert!(rt;
             found.starts_with(wanted) && found.is_empty() == wanted.is_empty(),
-            "at {answer}"
+            "at {verdict} {fault}"
         );
     }
-    for &(token, wanted) in &AROUND {
+    for row in &AROUND {
+        let (token, wanted) = row.split_once('|').ok_or("no bar")?;
         let found = around_token(token.as_bytes()).unwrap_or("");
         assert!(rt;
             found.starts_with(wanted) && found.is_empty() == wanted.is_empty(),
@@ -340,7 +258,8 @@ fn a_refused_token_is_told_with_what_to_do(rt: HostRuntime) -> Result<(), Fail> 
 /// As a JSON object a reason has the document, and its line and its column where it is about a place.
 #[test]
 fn a_reason_is_an_object_too(rt: HostRuntime) -> Result<(), Fail> {
-    for &(document, wanted) in &POLICIES_IN_JSON {
+    for row in &POLICIES_IN_JSON {
+        let (document, wanted) = row.split_once('|').ok_or("no bar")?;
         let found = json(rt.alloc(), document)?;
         assert_eq!(rt; found.as_str(), wanted, "at {document}");
     }
@@ -353,13 +272,13 @@ fn claims_tell_more_of_two_faults(rt: HostRuntime) -> Result<(), Fail> {
     let Some(now) = Moment::new(20) else {
         return Err(Fail::new("it is no moment"));
     };
-    for &(answer, token, wanted) in &DETAILS {
-        let found = claims_detail(rt.alloc(), answer.as_bytes(), token.as_bytes(), now)?;
+    for &(verdict, fault, token, wanted) in &DETAILS {
+        let found = claims_detail(rt.alloc(), Cause::of(verdict, fault), token.as_bytes(), now)?;
         let found = match &found {
             Some(text) => text.as_str(),
             None => "",
         };
-        assert_eq!(rt; found, wanted, "at {answer}");
+        assert_eq!(rt; found, wanted, "at {verdict} {fault}");
     }
     Ok(())
 }

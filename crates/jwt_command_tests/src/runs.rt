@@ -19,14 +19,24 @@ pub(crate) struct Printed {
     pub(crate) status: u8,
 }
 
-/// A run: its words, the lines of its input, with a line feed between two, the lines that it prints, with one behind each, and its
-/// status. Names in angle brackets in the input are those of [`filled`].
-#[derive(Clone, Copy)]
-pub(crate) struct CommandRow {
-    pub(crate) words: &'static [&'static str],
-    pub(crate) input: &'static [&'static str],
-    pub(crate) prints: &'static [&'static str],
-    pub(crate) status: u8,
+/// A row of a table of runs, which has a bar between two parts: the words, with a space between two, the input, and what is wanted.
+#[derive(Drop)]
+pub(crate) struct RunRow<'r> {
+    pub(crate) words: Vec<&'r str>,
+    pub(crate) input: &'r str,
+    pub(crate) wanted: &'r str,
+}
+
+/// The row of this text, whose names in angle brackets are filled in.
+pub(crate) fn row_of(alloc: Global, text: &str) -> Result<RunRow<'_>, Fail> {
+    let (words, behind) = text.split_once('|').ok_or("no input")?;
+    let (input, wanted) = behind.split_once('|').ok_or("nothing wanted")?;
+    let words = words.split(' ').collect(alloc)?;
+    Ok(RunRow {
+        words,
+        input,
+        wanted,
+    })
 }
 
 /// What a run has at hand.
@@ -197,12 +207,16 @@ pub(crate) fn assert_ran(
     Ok(())
 }
 
-/// Asserts that each row's run prints just its lines, and ends with its status.
-pub(crate) fn assert_rows(rt: &impl Abort, alloc: Global, rows: &[CommandRow]) -> Result<(), Fail> {
+/// Asserts that each row's run prints just the lines that are wanted, and ends with the status behind them. Names in angle brackets are those of
+/// [`filled`].
+pub(crate) fn assert_rows(rt: &impl Abort, alloc: Global, rows: &[&str]) -> Result<(), Fail> {
     for row in rows {
-        let input = joined(alloc, row.input)?;
-        let found = ran(alloc, row.words, &input)?;
-        assert_ran(rt, alloc, &found, row.prints, row.status)?;
+        let text = filled(alloc, row)?;
+        let row = row_of(alloc, &text)?;
+        let (lines, status) = row.wanted.split_once('|').ok_or("no status")?;
+        let status = status.parse::<u8>().ok().ok_or("no status")?;
+        let found = ran(alloc, &row.words, row.input)?;
+        assert_ran(rt, alloc, &found, &[lines], status)?;
     }
     Ok(())
 }

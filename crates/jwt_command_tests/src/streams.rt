@@ -1,81 +1,39 @@
 //! Streams that fail, and what is left unread.
-use crate::examples::{ACCEPTED, LINE_A, MOMENT, VERIFY};
-use crate::runs::{assert_ran, ended, joined, ran_on, status_of};
+use crate::runs::{assert_ran, ended, ran_on, row_of, status_of};
 use jwt_command::input::line::{LineFault, line};
 use jwt_command::run::lack_memory;
-use jwt_support::examples::{HS256, KEY_A, TOKEN_A};
+use jwt_support::examples::filled;
 use jwt_support::streams::{Drip, Narrow};
 use jwt_text::{GREATEST_LIMIT, Reader, Writer};
 use std::alloc::Global;
 use std::process::Abort;
 use std::test::Fail;
 
-/// A run, what it reads to its end, and the line that it prints.
-#[derive(Clone, Copy)]
-struct Streamed {
-    words: &'static [&'static str],
-    input: &'static [&'static str],
-    prints: &'static str,
-}
-
-/// What `verify` reads: a policy, a key set and a token.
-const VERIFY_INPUT: &[&str] = &[HS256, r#"{"keys":[{"kty":"oct","k":"<KEY_A>"}]}"#, TOKEN_A];
-
-/// Runs of each command, where a read fails.
-static READING: [Streamed; 5] = [
-    Streamed {
-        words: &["jwt", "mac", "--k", KEY_A, "--limit", "179"],
-        input: &[TOKEN_A],
-        prints: "failed Read",
-    },
-    Streamed {
-        words: &["jwt", "show", "--limit", "179"],
-        input: &[TOKEN_A],
-        prints: "failed Read",
-    },
-    Streamed {
-        words: VERIFY,
-        input: VERIFY_INPUT,
-        prints: "failed Read",
-    },
-    Streamed {
-        words: &["jwt", "keys"],
-        input: &[r#"{"keys":[]}"#],
-        prints: "failed Read",
-    },
-    Streamed {
-        words: &["jwt", "issue", "--alg", "HS256"],
-        input: &[r#"{"keys":[]}"#, "{}"],
-        prints: "failed Read",
-    },
+/// Runs of each command, where a read fails, and the line that each prints. Names in angle brackets are those of [`filled`].
+static READING: [&str; 5] = [
+    "jwt mac --k <KEY_A> --limit 179|<TOKEN_A>|failed Read",
+    "jwt show --limit 179|<TOKEN_A>|failed Read",
+    r#"jwt verify --now 1300819379|{"algs":["HS256"]}<LF>{"keys":[{"kty":"oct","k":"<KEY_A>"}]}<LF><TOKEN_A>|failed Read"#,
+    r#"jwt keys|{"keys":[]}|failed Read"#,
+    r#"jwt issue --alg HS256|{"keys":[]}<LF>{}|failed Read"#,
 ];
 
 /// Runs in JSON, where a read fails.
-static READING_IN_JSON: [Streamed; 3] = [
-    Streamed {
-        words: &["jwt", "show", "--json"],
-        input: &[TOKEN_A],
-        prints: r#"{"verdict":"failed","fault":"Read"}"#,
-    },
-    Streamed {
-        words: &["jwt", "keys", "--json"],
-        input: &[r#"{"keys":[]}"#],
-        prints: r#"{"verdict":"failed","fault":"Read"}"#,
-    },
-    Streamed {
-        words: &["jwt", "verify", "--json", "--now", MOMENT],
-        input: VERIFY_INPUT,
-        prints: r#"{"verdict":"failed","fault":"Read"}"#,
-    },
+static READING_IN_JSON: [&str; 3] = [
+    r#"jwt show --json|<TOKEN_A>|{"verdict":"failed","fault":"Read"}"#,
+    r#"jwt keys --json|{"keys":[]}|{"verdict":"failed","fault":"Read"}"#,
+    r#"jwt verify --json --now 1300819379|{"algs":["HS256"]}<LF>{"keys":[{"kty":"oct","k":"<KEY_A>"}]}<LF><TOKEN_A>|{"verdict":"failed","fault":"Read"}"#,
 ];
 
 /// Asserts that a run prints its line, and takes all that it can, wherever a read fails.
-fn assert_reading(rt: &impl Abort, alloc: Global, row: &Streamed) -> Result<(), Fail> {
-    let input = joined(alloc, row.input)?;
+fn assert_reading(rt: &impl Abort, alloc: Global, row: &str) -> Result<(), Fail> {
+    let text = filled(alloc, row)?;
+    let row = row_of(alloc, &text)?;
+    let input = row.input;
     for left in 0..=input.len() {
         let mut source = Drip::new(input.as_bytes(), left);
-        let found = ran_on(alloc, row.words, &mut source)?;
-        assert_ran(rt, alloc, &found, &[row.prints], 3)?;
+        let found = ran_on(alloc, &row.words, &mut source)?;
+        assert_ran(rt, alloc, &found, &[row.wanted], 3)?;
         assert_eq!(rt; source.rest.len(), input.len() - left);
     }
     Ok(())
@@ -99,38 +57,23 @@ fn a_read_that_fails_is_told_in_json(rt: HostRuntime) -> Result<(), Fail> {
     Ok(())
 }
 
-/// Runs that print a line.
-static WRITING: [Streamed; 4] = [
-    Streamed {
-        words: &["jwt", "show", "--json"],
-        input: &["e30.."],
-        prints: r#"{"unverified":{"form":"compact","payload":null,"signatures":[{"protected":{},"octets":0}],"claims_refused":{"fault":"ClaimsShape"}}}"#,
-    },
-    Streamed {
-        words: &["jwt", "mac", "--k", KEY_A],
-        input: &[TOKEN_A],
-        prints: LINE_A,
-    },
-    Streamed {
-        words: VERIFY,
-        input: VERIFY_INPUT,
-        prints: ACCEPTED,
-    },
-    Streamed {
-        words: &["jwt", "keys", "--json"],
-        input: &[r#"{"keys":[{}]}"#],
-        prints: r#"{"keys":[],"skipped":[{"place":0,"reason":"MemberMissing"}]}"#,
-    },
+/// Runs, and the line that each prints.
+static WRITING: [&str; 4] = [
+    r#"jwt show --json|e30..|{"unverified":{"form":"compact","payload":null,"signatures":[{"protected":{},"octets":0}],"claims_refused":{"fault":"ClaimsShape"}}}"#,
+    "jwt mac --k <KEY_A>|<TOKEN_A>|<LINE_A>",
+    r#"jwt verify --now 1300819379|{"algs":["HS256"]}<LF>{"keys":[{"kty":"oct","k":"<KEY_A>"}]}<LF><TOKEN_A>|accepted sig=0 key=0 tries=1 work=295"#,
+    r#"jwt keys --json|{"keys":[{}]}|{"keys":[],"skipped":[{"place":0,"reason":"MemberMissing"}]}"#,
 ];
 
 /// Asserts that of the run's line just what could be written went out, wherever a write fails.
-fn assert_writing(rt: &impl Abort, alloc: Global, row: &Streamed) -> Result<(), Fail> {
-    let input = joined(alloc, row.input)?;
-    let line = ended(alloc, &[row.prints])?;
+fn assert_writing(rt: &impl Abort, alloc: Global, row: &str) -> Result<(), Fail> {
+    let text = filled(alloc, row)?;
+    let row = row_of(alloc, &text)?;
+    let line = ended(alloc, &[row.wanted])?;
     for left in 0..line.len() {
         let mut sink = Narrow::new(alloc, left);
-        let mut source = Reader::new(input.as_bytes());
-        let status = status_of(alloc, row.words, &mut source, &mut sink);
+        let mut source = Reader::new(row.input.as_bytes());
+        let status = status_of(alloc, &row.words, &mut source, &mut sink);
         assert_eq!(rt; status, 3);
         assert_eq!(rt; sink.held.as_slice(), &line.as_bytes()[..left]);
     }
@@ -181,32 +124,17 @@ fn a_line_is_taken_up_to_its_end_or_one_octet_past_its_limit(rt: HostRuntime) ->
     Ok(())
 }
 
-/// Runs, and how many octets are unread behind a line that is refused.
-static UNREAD: [(Streamed, usize); 3] = [
+/// Runs, the line that each prints, and how many octets are unread behind a line that is refused.
+static UNREAD: [(&str, usize); 3] = [
     (
-        Streamed {
-            words: &["jwt", "verify", "--now", "0"],
-            input: &[r#"{"algs":[]}"#, "{}", "abc"],
-            prints: "refused Policy NoAlgorithm",
-        },
+        r#"jwt verify --now 0|{"algs":[]}<LF>{}<LF>abc|refused Policy NoAlgorithm"#,
         6,
     ),
     (
-        Streamed {
-            words: &["jwt", "verify", "--now", "0"],
-            input: &[r#"{"algs":["HS256"]}"#, "{}", "abc"],
-            prints: "refused Keys NotKeySet",
-        },
+        r#"jwt verify --now 0|{"algs":["HS256"]}<LF>{}<LF>abc|refused Keys NotKeySet"#,
         3,
     ),
-    (
-        Streamed {
-            words: &["jwt", "issue", "--alg", "HS256"],
-            input: &["{}", "{}"],
-            prints: "refused Keys NotKeySet",
-        },
-        2,
-    ),
+    ("jwt issue --alg HS256|{}<LF>{}|refused Keys NotKeySet", 2),
 ];
 
 /// Nothing behind a line that is too long is taken in.
@@ -214,10 +142,11 @@ static UNREAD: [(Streamed, usize); 3] = [
 fn what_follows_a_refused_line_is_unread(rt: HostRuntime) -> Result<(), Fail> {
     let alloc = rt.alloc();
     for (row, unread) in &UNREAD {
-        let input = joined(alloc, row.input)?;
-        let mut source = Drip::new(input.as_bytes(), 1000);
-        let found = ran_on(alloc, row.words, &mut source)?;
-        assert_ran(&rt, alloc, &found, &[row.prints], 1)?;
+        let text = filled(alloc, row)?;
+        let row = row_of(alloc, &text)?;
+        let mut source = Drip::new(row.input.as_bytes(), 1000);
+        let found = ran_on(alloc, &row.words, &mut source)?;
+        assert_ran(&rt, alloc, &found, &[row.wanted], 1)?;
         assert_eq!(rt; source.rest.len(), *unread);
     }
     Ok(())

@@ -1,122 +1,40 @@
 //! The document that a run of the command refuses.
-use crate::runs::{joined, refused_by};
+use crate::runs::{refused_by, row_of};
 use jwt_command::documents::Held;
-use std::process::Abort;
+use jwt_support::examples::{HS256, filled};
 use std::test::Fail;
 
-/// A run: its words, the lines of its input, with a line feed between two, and the document that it refuses, with what was read of it. Names
-/// in angle brackets in the input are those of `filled`.
-#[derive(Clone, Copy)]
-struct Row {
-    words: &'static [&'static str],
-    input: &'static [&'static str],
-    kind: &'static str,
-    octets: &'static str,
-}
-
-const VERIFY: &[&str] = &["jwt", "verify", "--now", "1300819379"];
-
-const POLICY: &str = r#"{"algs":["HS256"]}"#;
-
-const KEYS: &str = r#"{"keys":[]}"#;
-
-static ROWS: [Row; 13] = [
-    Row {
-        words: VERIFY,
-        input: &["[]", KEYS, "e30.e30.e30"],
-        kind: "policy",
-        octets: "[]",
-    },
-    Row {
-        words: VERIFY,
-        input: &[POLICY, "[7]", "e30.e30.e30"],
-        kind: "keys",
-        octets: "[7]",
-    },
-    Row {
-        words: VERIFY,
-        input: &[POLICY, KEYS, "e30.e30.", ""],
-        kind: "token",
-        octets: "e30.e30.\n",
-    },
-    Row {
-        words: VERIFY,
-        input: &[r#"{"algs":["HS256"],"limit":3}"#, KEYS, "e30.e30.e30"],
-        kind: "token",
-        octets: "e30.",
-    },
-    Row {
-        words: &["jwt", "verify", "--now", "1300819379", "--json"],
-        input: &[POLICY, KEYS, "{\"payload\":}"],
-        kind: "token",
-        octets: "{\"payload\":}",
-    },
-    Row {
-        words: &["jwt", "keys"],
-        input: &["{\"keys\":7}", ""],
-        kind: "keys",
-        octets: "{\"keys\":7}\n",
-    },
-    Row {
-        words: &["jwt", "keys"],
-        input: &[KEYS],
-        kind: "",
-        octets: "",
-    },
-    Row {
-        words: &["jwt", "issue", "--alg", "HS256"],
-        input: &["7", "{}"],
-        kind: "keys",
-        octets: "7",
-    },
-    Row {
-        words: &["jwt", "issue", "--alg", "HS256"],
-        input: &[KEYS, "{\"exp\":\"x\"}"],
-        kind: "",
-        octets: "",
-    },
-    Row {
-        words: &["jwt", "show"],
-        input: &["e30"],
-        kind: "token",
-        octets: "e30",
-    },
-    Row {
-        words: &["jwt", "show", "--limit", "2"],
-        input: &["e30.e30."],
-        kind: "token",
-        octets: "e30",
-    },
-    Row {
-        words: &["jwt", "show", "--pretty"],
-        input: &["{"],
-        kind: "token",
-        octets: "{",
-    },
-    Row {
-        words: &["jwt", "mac", "--k", "AAAA"],
-        input: &["e30"],
-        kind: "",
-        octets: "",
-    },
+/// Runs, each with the document that it refuses, and what was read of it. Names in angle brackets are those of [`filled`].
+static ROWS: [&str; 13] = [
+    r#"jwt verify --now 1300819379|[]<LF>{"keys":[]}<LF>e30.e30.e30|policy|[]"#,
+    r#"jwt verify --now 1300819379|{"algs":["HS256"]}<LF>[7]<LF>e30.e30.e30|keys|[7]"#,
+    r#"jwt verify --now 1300819379|{"algs":["HS256"]}<LF>{"keys":[]}<LF>e30.e30.<LF>|token|e30.e30.<LF>"#,
+    r#"jwt verify --now 1300819379|{"algs":["HS256"],"limit":3}<LF>{"keys":[]}<LF>e30.e30.e30|token|e30."#,
+    r#"jwt verify --now 1300819379 --json|{"algs":["HS256"]}<LF>{"keys":[]}<LF>{"payload":}|token|{"payload":}"#,
+    r#"jwt keys|{"keys":7}<LF>|keys|{"keys":7}<LF>"#,
+    r#"jwt keys|{"keys":[]}||"#,
+    "jwt issue --alg HS256|7<LF>{}|keys|7",
+    r#"jwt issue --alg HS256|{"keys":[]}<LF>{"exp":"x"}||"#,
+    "jwt show|e30|token|e30",
+    "jwt show --limit 2|e30.e30.|token|e30",
+    "jwt show --pretty|{|token|{",
+    "jwt mac --k AAAA|e30||",
 ];
 
 /// The document that is refused, and no other, is named, with what was read of it, from the input or from what is in hand.
 #[test]
 fn a_refused_document_is_the_subject(rt: HostRuntime) -> Result<(), Fail> {
-    for row in &ROWS {
-        let input = joined(rt.alloc(), row.input)?;
-        let found = refused_by(rt.alloc(), row.words, Held::none(), &input)?;
-        assert_eq!(rt; found.kind, row.kind, "at {input}");
-        assert_eq!(rt;
-            found.octets.as_slice(),
-            row.octets.as_bytes(),
-            "at {input}"
-        );
+    for text in &ROWS {
+        let row = filled(rt.alloc(), text)?;
+        let row = row_of(rt.alloc(), &row)?;
+        let (kind, octets) = row.wanted.split_once('|').ok_or("no octets")?;
+        let found = refused_by(rt.alloc(), &row.words, Held::none(), row.input)?;
+        assert_eq!(rt; found.kind, kind, "at {text}");
+        assert_eq!(rt; found.octets.as_slice(), octets.as_bytes(), "at {text}");
     }
     let held = Held {
-        policy: Some(POLICY.as_bytes()),
-        keys: Some(KEYS.as_bytes()),
+        policy: Some(HS256.as_bytes()),
+        keys: Some(br#"{"keys":[]}"#),
         access: Some(b"[]"),
         ..Held::none()
     };

@@ -1,56 +1,15 @@
 //! Wrong words, and those that ask for the version.
-use crate::runs::{CommandRow, assert_ran, assert_rows, ran_on};
+use crate::runs::{assert_ran, assert_rows, ran_on};
 use jwt_support::examples::TOKEN_A;
 use jwt_support::streams::Drip;
 use std::test::Fail;
 
 /// What clap says of wrong words.
-static SAID: [CommandRow; 4] = [
-    CommandRow {
-        words: &["jwt"],
-        input: &[],
-        prints: &[
-            "error: 'jwt' requires a subcommand but one was not provided",
-            "  [subcommands: mac, keys, show, verify, issue, jwk, policy, help]",
-            "",
-            "Usage: jwt <COMMAND>",
-            "",
-            "For more information, try '--help'.",
-        ],
-        status: 2,
-    },
-    CommandRow {
-        words: &["jwt", "mac", "--k", "AA==", "--limit", "0"],
-        input: &[],
-        prints: &[
-            "error: invalid value '0' for '--limit <N>': 0 is not in 1..=1048576",
-            "",
-            "For more information, try '--help'.",
-        ],
-        status: 2,
-    },
-    CommandRow {
-        words: &["jwt", "mac"],
-        input: &[],
-        prints: &[
-            "error: one of the following arguments has to be provided:",
-            "  --k <TEXT>",
-            "  --key-file <FILE>",
-            "",
-            "For more information, try '--help'.",
-        ],
-        status: 2,
-    },
-    CommandRow {
-        words: &["jwt", "verify", "--now", "7", "--expect", "nonce"],
-        input: &[],
-        prints: &[
-            "error: invalid value 'nonce' for '--expect <NAME=TEXT>': it has no '='",
-            "",
-            "For more information, try '--help'.",
-        ],
-        status: 2,
-    },
+static SAID: [&str; 4] = [
+    "jwt||error: 'jwt' requires a subcommand but one was not provided<LF>  [subcommands: mac, keys, show, verify, issue, jwk, policy, help]<LF><LF>Usage: jwt <COMMAND><LF><LF>For more information, try '--help'.|2",
+    "jwt mac --k AA== --limit 0||error: invalid value '0' for '--limit <N>': 0 is not in 1..=1048576<LF><LF>For more information, try '--help'.|2",
+    "jwt mac||error: one of the following arguments has to be provided:<LF>  --k <TEXT><LF>  --key-file <FILE><LF><LF>For more information, try '--help'.|2",
+    "jwt verify --now 7 --expect nonce||error: invalid value 'nonce' for '--expect <NAME=TEXT>': it has no '='<LF><LF>For more information, try '--help'.|2",
 ];
 
 /// Words that are looked at before anything is read.

@@ -3,11 +3,11 @@ use Rattle.std.proofs.Common.{◌≡◌, ◌≢◌, ℕ, ◌<◌, inl, [], ◌�
 use Rattle.std.proofs.lemmas.Option.{slice_get_within, get_or_from_slice_get}
 use Rattle.serde_json.specs.Data.{Members}
 use Rattle.jwt_mac.specs.declared.algorithm.Alg.{Alg}
-use Rattle.jwt_expected.specs.Expected.{AreMet, IsMet, expected_text}
-use Rattle.jwt_expected.specs.Unmet.{IsAbsent, IsOther, IsFirstUnmet}
-use Rattle.jwt_expected.specs.declared.expected.Expected.{Expected}
-use Rattle.jwt_expected.specs.declared.expected.Unmet.{Unmet}
-use Rattle.jwt_expected.specs.declared.expected.Unmet.TheVariants.{Absent, Other}
+use Rattle.jwt_access.specs.expected.Expected.{AreMet, IsMet, expected_text}
+use Rattle.jwt_access.specs.expected.Unmet.{IsAbsent, IsOther, IsFirstUnmet}
+use Rattle.jwt_access.specs.declared.expected.expected.Expected.{Expected}
+use Rattle.jwt_access.specs.declared.expected.expected.Unmet.{Unmet}
+use Rattle.jwt_access.specs.declared.expected.expected.Unmet.TheVariants.{Absent, Other}
 use Rattle.jwt_handles.specs.Expecting.{SaysText}
 
 at_front : (e x : Expected) (place : ℕ) → place ≡ 0 → slice_get (e ∷ []) place ≡ Some x → x ≡ e

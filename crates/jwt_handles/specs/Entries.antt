@@ -2,10 +2,10 @@
 use Rattle.std.specs.Prelude.{ℕ, ℤ, ◌≡◌, ◌==◌, if◌then◌else◌, Option, Some, None, Result, Ok, Err}
 use Rattle.serde_json.specs.Data.{Members}
 use Rattle.jwt_policy.specs.Settings.{Settings}
-use Rattle.jwt_once.specs.declared.accepted.Entry.{Entry}
-use Rattle.jwt_once.specs.declared.accepted.Lack.{Lack}
-use Rattle.jwt_once.specs.declared.accepted.Lack.TheVariants.{NoId, NoEnd, Ahead}
-use Rattle.jwt_once.specs.Accepted.{IsEntryOf}
+use Rattle.jwt_possession.specs.declared.once.accepted.Entry.{Entry}
+use Rattle.jwt_possession.specs.declared.once.accepted.Lack.{Lack}
+use Rattle.jwt_possession.specs.declared.once.accepted.Lack.TheVariants.{NoId, NoEnd, Ahead}
+use Rattle.jwt_possession.specs.once.Accepted.{IsEntryOf}
 use Rattle.jwt_possession.specs.Possessions.{proved, proof_mark}
 use Rattle.jwt_possession.specs.declared.possession.Possession.{Possession}
 use Rattle.jwt_handles.specs.declared.entries.FowEntry.{FowEntry}

@@ -9,7 +9,7 @@ use Rattle.jwt_access.specs.Granted.{IsClaim}
 use Rattle.jwt_verify.specs.declared.report.Fault.{Fault}
 use Rattle.jwt_verify.specs.declared.report.SigState.{SigState}
 use Rattle.jwt_verify.specs.declared.report.SigState.TheVariants.{Verified}
-use Rattle.jwt_expected.specs.Expected.{half_hash}
+use Rattle.jwt_access.specs.expected.Expected.{half_hash}
 use Rattle.jwt_handles.specs.declared.state.Last.{Last}
 use Rattle.jwt_handles.specs.declared.status.TheConstants.{FOW_OK, FOW_ABSENT, FOW_NOT_EXPECTED}
 use Rattle.jwt_handles.specs.Evidence.{states_kept, claims_kept, payload_kept}

@@ -9,10 +9,10 @@ use Rattle.jwt_policy.specs.Settings.{Settings}
 use Rattle.jwt_policy.specs.Document.{policy_of}
 use Rattle.jwt_policy.specs.declared.policy_fault.PolicyFault.{PolicyFault}
 use Rattle.jwt_verify.specs.declared.report.Fault.{Fault}
-use Rattle.jwt_once.specs.Accepted.{seconds}
-use Rattle.jwt_once.specs.Steps.{IsTaken}
-use Rattle.jwt_once.specs.declared.once.Once.{Once}
-use Rattle.jwt_once.specs.declared.once.Taken.{Taken}
+use Rattle.jwt_possession.specs.once.Accepted.{seconds}
+use Rattle.jwt_possession.specs.once.Steps.{IsTaken}
+use Rattle.jwt_possession.specs.declared.once.once.Once.{Once}
+use Rattle.jwt_possession.specs.declared.once.once.Taken.{Taken}
 use Rattle.jwt_possession.specs.ProofPolicies.{policy_rows}
 use Rattle.jwt_possession.specs.Proofs.{IsProof, IsProofFault}
 use Rattle.jwt_possession.specs.Possessions.{proved, owner_beside, proof_mark, proof_times}

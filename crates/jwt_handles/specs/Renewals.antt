@@ -1,11 +1,11 @@
 -- How the parts of a renewal cross to C: as numbers.
 use Rattle.std.specs.Prelude.{ℕ, Bool, ◌==◌, if◌then◌else◌, not, Option, Some, None}
-use Rattle.jwt_renewal.specs.declared.renewal.Renewal.{Renewal}
-use Rattle.jwt_renewal.specs.declared.times.Times.{Times}
-use Rattle.jwt_renewal.specs.declared.asker.Asker.{Asker}
-use Rattle.jwt_renewal.specs.declared.asker.Asker.TheVariants.{Token, Refused, Owner, Waited}
-use Rattle.jwt_renewal.specs.declared.answer.Fetch.{Fetch}
-use Rattle.jwt_renewal.specs.declared.answer.Fetch.TheVariants.{Nothing, Begin, UnderWay}
+use Rattle.jwt_request.specs.declared.renewal.renewal.Renewal.{Renewal}
+use Rattle.jwt_request.specs.declared.renewal.times.Times.{Times}
+use Rattle.jwt_request.specs.declared.renewal.asker.Asker.{Asker}
+use Rattle.jwt_request.specs.declared.renewal.asker.Asker.TheVariants.{Token, Refused, Owner, Waited}
+use Rattle.jwt_request.specs.declared.renewal.answer.Fetch.{Fetch}
+use Rattle.jwt_request.specs.declared.renewal.answer.Fetch.TheVariants.{Nothing, Begin, UnderWay}
 use Rattle.jwt_handles.specs.declared.renewal.FowRenewal.{FowRenewal}
 use Rattle.jwt_handles.specs.declared.renewal.FowRenewalAnswer.{FowRenewalAnswer}
 

@@ -2,13 +2,13 @@
 use Rattle.std.specs.Prelude.{ℕ, ℤ, ◌≡◌, ◌==◌, ◌/◌, max, nat_lt, if◌then◌else◌, Bool, List, Option, Some, None, Result, Ok, Err}
 use Rattle.serde_json.specs.Data.{Members}
 use Rattle.jwt_policy.specs.Settings.{Settings}
-use Rattle.jwt_once.specs.declared.accepted.Lack.{Lack}
-use Rattle.jwt_once.specs.declared.accepted.Lack.TheVariants.{NoId, NoEnd, Ahead}
-use Rattle.jwt_once.specs.declared.once.Once.{Once}
-use Rattle.jwt_once.specs.declared.once.Taken.{Taken}
-use Rattle.jwt_once.specs.declared.once.Taken.TheVariants.{New, Seen, Late, OwnFull, Full, OutOfMemory}
-use Rattle.jwt_once.specs.Steps.{held_of}
-use Rattle.jwt_once.specs.Accepted.{IsTakenFor, issued_of}
+use Rattle.jwt_possession.specs.declared.once.accepted.Lack.{Lack}
+use Rattle.jwt_possession.specs.declared.once.accepted.Lack.TheVariants.{NoId, NoEnd, Ahead}
+use Rattle.jwt_possession.specs.declared.once.once.Once.{Once}
+use Rattle.jwt_possession.specs.declared.once.once.Taken.{Taken}
+use Rattle.jwt_possession.specs.declared.once.once.Taken.TheVariants.{New, Seen, Late, OwnFull, Full, OutOfMemory}
+use Rattle.jwt_possession.specs.once.Steps.{held_of}
+use Rattle.jwt_possession.specs.once.Accepted.{IsTakenFor, issued_of}
 use Rattle.jwt_handles.specs.declared.once_state.OnceState.{OnceState}
 use Rattle.jwt_handles.specs.declared.state.State.{State}
 use Rattle.jwt_handles.specs.declared.status.TheConstants.{FOW_OK, FOW_REFUSED, FOW_OUT_OF_MEMORY, FOW_ABSENT}

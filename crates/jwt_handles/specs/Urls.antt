@@ -2,13 +2,13 @@
 use Rattle.std.specs.Prelude.{ℕ, List, ◌==◌, if◌then◌else◌, codes, Option, Result}
 use Rattle.serde_json.specs.Data.{Members}
 use Rattle.jwt_text.specs.declared.fault.TextFault.{TextFault}
-use Rattle.jwt_urls.specs.declared.url.Url.{Url}
-use Rattle.jwt_urls.specs.declared.metadata.Metadata.{Metadata}
-use Rattle.jwt_urls.specs.declared.metadata.Metadata.TheVariants as metadata
-use Rattle.jwt_urls.specs.declared.answers.Asked.{Asked}
-use Rattle.jwt_urls.specs.declared.answers.Asked.TheVariants.{Keys, OpenId, OAuth}
-use Rattle.jwt_urls.specs.declared.answers.Next.{Next}
-use Rattle.jwt_urls.specs.declared.answers.Next.TheVariants.{Take, Follow, AskOAuth, TooOften, Fail}
+use Rattle.jwt_request.specs.declared.urls.url.Url.{Url}
+use Rattle.jwt_request.specs.declared.urls.metadata.Metadata.{Metadata}
+use Rattle.jwt_request.specs.declared.urls.metadata.Metadata.TheVariants as metadata
+use Rattle.jwt_request.specs.declared.urls.answers.Asked.{Asked}
+use Rattle.jwt_request.specs.declared.urls.answers.Asked.TheVariants.{Keys, OpenId, OAuth}
+use Rattle.jwt_request.specs.declared.urls.answers.Next.{Next}
+use Rattle.jwt_request.specs.declared.urls.answers.Next.TheVariants.{Take, Follow, AskOAuth, TooOften, Fail}
 use Rattle.jwt_handles.specs.declared.urls.FowUrl.{FowUrl}
 use Rattle.jwt_handles.specs.Issuers.{text_in}
 

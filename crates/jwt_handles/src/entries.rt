@@ -7,9 +7,9 @@ ghost use Rattle.jwt_handles.specs.Entries.{SaysEntry, TellsClaims, TellsLast, T
 use crate::handle::{Handle, take};
 use crate::possession_handle::{PossessionHandle, take_possession};
 use crate::status::{FOW_ABSENT, FOW_NOT_OPEN, FOW_OK, FOW_REFUSED};
-use jwt_once::{Entry, Lack, entry_of};
 use jwt_policy::{Claims, Policy};
 use jwt_possession::Possession;
+use jwt_possession::once::{Entry, Lack, entry_of};
 use std::alloc::Global;
 
 /// How a token or a proof that counts once is held. In C `fow_entry`.

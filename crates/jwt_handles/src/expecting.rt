@@ -3,7 +3,7 @@
 ghost use Rattle.jwt_handles.specs.declared.status.TheConstants.{FOW_NOT_EXPECTED, FOW_NOT_OPEN, FOW_OUT_OF_MEMORY, FOW_REFUSED};
 ghost use Rattle.std.specs.Prelude.{◌≡◌, ◌≢◌, IfSome, IfOk, IsUtf8, None, option_map, slice_get};
 ghost use Rattle.jwt_jws.specs.Views.{token};
-ghost use Rattle.jwt_expected.specs.Expected.{expected_text};
+ghost use Rattle.jwt_access.specs.expected.Expected.{expected_text};
 ghost use Rattle.jwt_verify.specs.Verdict.{token_of};
 ghost use Rattle.jwt_handles.specs.Documents.{documents};
 ghost use Rattle.jwt_handles.specs.Evidence.{states_kept, claims_kept, payload_kept};
@@ -16,7 +16,7 @@ use crate::status::{
     FOW_ABSENT, FOW_NOT_EXPECTED, FOW_NOT_OPEN, FOW_OK, FOW_OUT_OF_MEMORY, FOW_REFUSED,
 };
 use crate::tokens::SignatureOf;
-use jwt_expected::{Expected, Unmet, Wanted, first_unmet};
+use jwt_access::expected::{Expected, Unmet, Wanted, first_unmet};
 use jwt_jws::Signed;
 use jwt_mac::Alg;
 use jwt_policy::{Claims, known_alg};

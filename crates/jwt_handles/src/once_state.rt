@@ -1,6 +1,6 @@
 //! The state behind the handle of a memory of tokens that count once.
 
-use jwt_once::Once;
+use jwt_possession::once::Once;
 
 /// The tokens that were taken.
 #[derive(Drop)]

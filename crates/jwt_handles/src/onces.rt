@@ -9,8 +9,8 @@ use crate::handle::{Handle, take};
 use crate::once_handle::{OnceHandle, take_once};
 use crate::once_state::OnceState;
 use crate::status::{FOW_ABSENT, FOW_NOT_OPEN, FOW_OK, FOW_OUT_OF_MEMORY, FOW_REFUSED};
-use jwt_once::{Lack, Once, Taken, issued_of};
 use jwt_policy::{Claims, Policy};
+use jwt_possession::once::{Lack, Once, Taken, issued_of};
 use std::alloc::Global;
 use std::num::NonZeroUsize;
 

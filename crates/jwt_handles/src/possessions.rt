@@ -16,7 +16,7 @@ use crate::possessing::{Sent, policy_of};
 use crate::possession_handle::{PossessionHandle, take_possession};
 use crate::status::{FOW_ABSENT, FOW_NOT_OPEN, FOW_OK, FOW_TOO_SHORT};
 use crate::writing::put;
-use jwt_once::Once;
+use jwt_possession::once::Once;
 use jwt_possession::{Possession, ProofPolicy};
 use std::alloc::Global;
 

@@ -1,13 +1,13 @@
 //! Keys by URL: the numbers of a [`Renewal`] stand in a struct of the caller's, who holds a lock round each call.
 
 ghost use Rattle.std.specs.Prelude.{◌≡◌, ◌-◌, ◌∷◌, ◌↔◌, ◌<◌, ◌≤◌, [], List, ℕ, IsTrue};
-ghost use Rattle.jwt_renewal.specs.History.{Event, passed, took, failed};
-ghost use Rattle.jwt_renewal.specs.Rules.{IsKeys, IsUsable, IsFetch, Counts, Wants, MayBegin, MayWait, with_fetch, with_end, with_waiting};
-ghost use Rattle.jwt_renewal.specs.Standing.{Stands};
-ghost use Rattle.jwt_renewal.specs.declared.asker.Asker.TheVariants.{Token};
+ghost use Rattle.jwt_request.specs.renewal.History.{Event, passed, took, failed};
+ghost use Rattle.jwt_request.specs.renewal.Rules.{IsKeys, IsUsable, IsFetch, Counts, Wants, MayBegin, MayWait, with_fetch, with_end, with_waiting};
+ghost use Rattle.jwt_request.specs.renewal.Standing.{Stands};
+ghost use Rattle.jwt_request.specs.declared.renewal.asker.Asker.TheVariants.{Token};
 ghost use Rattle.jwt_handles.specs.Renewals.{renewal_of, asker_of, keys_of, fetch_of, times_of, truth};
 
-use jwt_renewal::{Answer, Asker, Fetch, Renewal, Times, Waiters};
+use jwt_request::renewal::{Answer, Asker, Fetch, Renewal, Times, Waiters};
 
 /// When keys by URL are fetched, and until when they are used. In C `fow_renewal`. Its numbers are the library's own; any are answered.
 #[repr(C)]

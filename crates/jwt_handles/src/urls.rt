@@ -3,19 +3,19 @@
 ghost use Rattle.jwt_handles.specs.declared.status.TheConstants.{FOW_OK, FOW_OUT_OF_MEMORY, FOW_REFUSED, FOW_TOO_SHORT};
 ghost use Rattle.std.specs.Prelude.{◌≡◌, ◌≢◌, ◌↔◌, IsTrue, None, Some, Ok, Err, option_map};
 ghost use Rattle.jwt_text.specs.ObjectText.{object_of};
-ghost use Rattle.jwt_urls.specs.declared.writing.Unwritten.TheVariants.{Refused, TooShort};
-ghost use Rattle.jwt_urls.specs.Urls.{url_where};
-ghost use Rattle.jwt_urls.specs.Written.{IsWritten};
-ghost use Rattle.jwt_urls.specs.References.{redirection};
-ghost use Rattle.jwt_urls.specs.Metadata.{metadata_url};
-ghost use Rattle.jwt_urls.specs.Answers.{IsNext, most_of};
+ghost use Rattle.jwt_request.specs.declared.urls.writing.Unwritten.TheVariants.{Refused, TooShort};
+ghost use Rattle.jwt_request.specs.urls.Urls.{url_where};
+ghost use Rattle.jwt_request.specs.urls.Written.{IsWritten};
+ghost use Rattle.jwt_request.specs.urls.References.{redirection};
+ghost use Rattle.jwt_request.specs.urls.Metadata.{metadata_url};
+ghost use Rattle.jwt_request.specs.urls.Answers.{IsNext, most_of};
 ghost use Rattle.jwt_handles.specs.Urls.{asked_of, metadata_issuer, metadata_keys, metadata_at, next_at, parts_of};
 ghost use Rattle.jwt_handles.specs.Written.{PutsHeld, PutsSome};
 
 use crate::status::{FOW_ABSENT, FOW_OK, FOW_OUT_OF_MEMORY, FOW_REFUSED, FOW_TOO_SHORT};
 use crate::writing::put;
+use jwt_request::urls::{Asked, Metadata, Next, Unwritten, next_of};
 use jwt_text::{TextFault, object};
-use jwt_urls::{Asked, Metadata, Next, Unwritten, next_of};
 use std::alloc::Global;
 
 /// Where the parts of a URL stand. In C `fow_url`.
@@ -51,7 +51,7 @@ pub fn url_of(url: &[u8], allows_http: bool, parts: &mut FowUrl) -> u32
     ensures said { result ≢ FOW_OK → result ≡ FOW_REFUSED }
     ensures unwritten { result ≢ FOW_OK → parts.new ≡ parts.old }
 {
-    match jwt_urls::url_of(url, allows_http) {
+    match jwt_request::urls::url_of(url, allows_http) {
         Some(at) => {
             *parts = FowUrl {
                 https: if at.is_https { 1 } else { 0 },
@@ -74,7 +74,7 @@ pub fn redirected(url: &[u8], location: &[u8], out: &mut [u8], written: &mut usi
     ensures said { result ≢ FOW_OK → result ≢ FOW_TOO_SHORT → result ≡ FOW_REFUSED }
     ensures unwritten { result ≢ FOW_OK → (out.new ≡ out.old) × (written.new ≡ written.old) }
 {
-    match jwt_urls::redirected(url, location, out) {
+    match jwt_request::urls::redirected(url, location, out) {
         Ok(size) => {
             *written = size;
             FOW_OK

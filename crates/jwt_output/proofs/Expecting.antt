@@ -10,11 +10,11 @@ use Rattle.jwt_access.specs.Granted.{IsClaim, IsPath}
 use Rattle.jwt_access.specs.Pointers.{claim_at, path_of, value_at}
 use Rattle.jwt_access.specs.declared.denial.Denial.TheVariants.{ClaimMissing, ClaimNotAllowed}
 use Rattle.jwt_mac.specs.declared.algorithm.Alg.{Alg}
-use Rattle.jwt_expected.specs.Expected.{AreMet, expected_text}
-use Rattle.jwt_expected.specs.Unmet.{IsFirstUnmet}
-use Rattle.jwt_expected.specs.declared.expected.Expected.{Expected}
-use Rattle.jwt_expected.specs.declared.expected.Unmet.TheVariants.{Absent, Other}
-use Rattle.jwt_expected.specs.declared.expected.Wanted.TheVariants.{Text}
+use Rattle.jwt_access.specs.expected.Expected.{AreMet, expected_text}
+use Rattle.jwt_access.specs.expected.Unmet.{IsFirstUnmet}
+use Rattle.jwt_access.specs.declared.expected.expected.Expected.{Expected}
+use Rattle.jwt_access.specs.declared.expected.expected.Unmet.TheVariants.{Absent, Other}
+use Rattle.jwt_access.specs.declared.expected.expected.Wanted.TheVariants.{Text}
 use Rattle.jwt_settings.specs.Seen.{Expectation}
 use Rattle.jwt_output.specs.verdicts.Denied.{MeetExpected, expected_lacking, text_lacking}
 

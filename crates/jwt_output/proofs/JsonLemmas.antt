@@ -15,7 +15,6 @@ use Rattle.std.specs.Global.{Global}
 use Rattle.json.specs.Tree.{HasNumbers, ItemsHaveNumbers, MembersHaveNumbers, items_tokens, json_tokens, members_tokens}
 use Rattle.jwt_output.specs.Json.{Named, items_in, json_line, members_in, object_of_members, json_value}
 use Rattle.jwt_output.specs.JsonTokens.{named_tokens}
-use Rattle.jwt_output.specs.Printed.{Answer}
 
 pub members_written : (ms : List Named) → members_tokens (members_in ms) ≡ named_tokens ms ++ Token.end_object ∷ []
 members_written [] = refl
@@ -53,10 +52,10 @@ object_put ms old start done new s d n =
     ∙ ap (λ ts. old ++ Token.begin_object ∷ ts) (sym (members_written ms))
 
 -- the line of an object whose members were written
-pub line_put : (ms : List Named) (status : ℕ) (start done : List Token) → start ≡ Token.begin_object ∷ [] → done ≡ start ++ named_tokens ms → (a : Answer)
-    → a ≡ record { text = print (done ++ Token.end_object ∷ []) ++ 10 ∷ []; status = status } → a ≡ json_line ms status
-line_put ms status start done s d a is =
-    is ∙ ap (λ ts. record { text = print ts ++ 10 ∷ []; status = status }) (ap (λ ts. ts ++ Token.end_object ∷ []) (d ∙ ap (λ ts. ts ++ named_tokens ms) s) ∙ sym (object_written ms))
+pub line_put : (ms : List Named) (start done : List Token) → start ≡ Token.begin_object ∷ [] → done ≡ start ++ named_tokens ms → (a : List ℕ)
+    → a ≡ print (done ++ Token.end_object ∷ []) ++ 10 ∷ [] → a ≡ json_line ms
+line_put ms start done s d a is =
+    is ∙ ap (λ ts. print ts ++ 10 ∷ []) (ap (λ ts. ts ++ Token.end_object ∷ []) (d ∙ ap (λ ts. ts ++ named_tokens ms) s) ∙ sym (object_written ms))
 
 -- ---- the value of a text
 

@@ -1,5 +1,5 @@
 -- Whose answer has the status 0.
-use Rattle.std.proofs.Common.{◌≡◌, ◌↔◌, ap₂, ℕ, List, [], Option, None, Some, refl, arith}
+use Rattle.std.proofs.Common.{◌≡◌, ◌↔◌, ap₂, ℕ, List, Option, None, Some, refl, arith}
 use Rattle.std.specs.Option.{option_or}
 use Rattle.serde_json.specs.Data.{Members}
 use Rattle.jwt_access.specs.Denials.{denial_of}
@@ -10,17 +10,13 @@ use Rattle.jwt_access.specs.declared.moment.Moment.{Moment}
 use Rattle.jwt_verify.specs.declared.report.InputFault.TheVariants.{Read, TooLong}
 use Rattle.jwt_verify.specs.declared.report.Fault.{Fault}
 use Rattle.jwt_verify.specs.declared.report.Fault.TheVariants.{OutOfMemory, Text, Form, WorkExceeded, CallsExceeded, VerifierMemory, Signature, Claim}
-use Rattle.jwt_verify.specs.declared.report.SigState.{SigState}
-use Rattle.jwt_verify.specs.declared.report.Try.{Try}
 use Rattle.jwt_verify.specs.declared.report.Verdict.{Verdict}
 use Rattle.jwt_verify.specs.declared.report.Verdict.TheVariants.{Accepted, Refused}
 use Rattle.jwt_output.specs.verdicts.Denied.{Demands, IsPassed, MeetExpected, MeetRule, expected_lacking, lacking, rule_lacking}
 use Rattle.jwt_output.proofs.Expecting.{AreSpelled, expected_lacks_none}
 use Rattle.jwt_output.specs.fields.Fields.{Field}
-use Rattle.jwt_output.specs.fields.Verdicts.{answer, evidence, lacks_of, refusal, status_of}
-use Rattle.jwt_output.specs.verdicts.Verdicts.{verdict_json, verify_line}
+use Rattle.jwt_output.specs.fields.Verdicts.{answer, lacks_of, refusal, status_of}
 use Rattle.jwt_settings.specs.declared.printing.Printing.{Printing}
-use Rattle.jwt_settings.specs.declared.printing.Printing.TheVariants.{Json, Lines}
 
 abbrev pub AreSaid : Type 0
 AreSaid = (rule : Rule) (at : Moment) (ms : Members) → (denial_of rule at ms ≡ None) ↔ IsGranted rule at ms
@@ -49,37 +45,18 @@ status_none None = (λ e. refl, λ e. refl)
 status_none (Some d) = (λ e. absurd (omega (arith, e)), λ e. absurd cc)
 
 refused : (printing : Printing) (fault : Fault) (ran : List Field) → (refusal printing fault ran).status ≡ 0 → ⊥
-refused Lines OutOfMemory ran e = omega (arith, e)
-refused Lines VerifierMemory ran e = omega (arith, e)
-refused Lines (Text Read) ran e = omega (arith, e)
-refused Lines (Text TooLong) ran e = omega (arith, e)
-refused Lines (Form f) ran e = omega (arith, e)
-refused Lines (WorkExceeded i j) ran e = omega (arith, e)
-refused Lines (CallsExceeded i j) ran e = omega (arith, e)
-refused Lines (Signature i f) ran e = omega (arith, e)
-refused Lines (Claim f) ran e = omega (arith, e)
-refused Json OutOfMemory ran e = omega (arith, e)
-refused Json VerifierMemory ran e = omega (arith, e)
-refused Json (Text Read) ran e = omega (arith, e)
-refused Json (Text TooLong) ran e = omega (arith, e)
-refused Json (Form f) ran e = omega (arith, e)
-refused Json (WorkExceeded i j) ran e = omega (arith, e)
-refused Json (CallsExceeded i j) ran e = omega (arith, e)
-refused Json (Signature i f) ran e = omega (arith, e)
-refused Json (Claim f) ran e = omega (arith, e)
+refused printing OutOfMemory ran e = omega (arith, e)
+refused printing VerifierMemory ran e = omega (arith, e)
+refused printing (Text Read) ran e = omega (arith, e)
+refused printing (Text TooLong) ran e = omega (arith, e)
+refused printing (Form f) ran e = omega (arith, e)
+refused printing (WorkExceeded i j) ran e = omega (arith, e)
+refused printing (CallsExceeded i j) ran e = omega (arith, e)
+refused printing (Signature i f) ran e = omega (arith, e)
+refused printing (Claim f) ran e = omega (arith, e)
 
-passes : AreSaid → AreSpelled → (printing : Printing) (demands : Demands) (at : Moment) (verdict : Verdict) (payload : List ℕ) (ran : List Field)
+pub passes : AreSaid → AreSpelled → (printing : Printing) (demands : Demands) (at : Moment) (verdict : Verdict) (payload : List ℕ) (ran : List Field)
     → ((answer printing (lacks_of demands at verdict) verdict payload ran).status ≡ 0) ↔ IsPassed demands at verdict
-passes said spelled Lines demands at (Accepted i j claims) payload ran =
-    (λ e. (lacks_none said spelled demands at claims).0 ((status_none (lacking demands at claims)).0 e), λ h. (status_none (lacking demands at claims)).1 ((lacks_none said spelled demands at claims).1 h))
-passes said spelled Json demands at (Accepted i j claims) payload ran =
+passes said spelled printing demands at (Accepted i j claims) payload ran =
     (λ e. (lacks_none said spelled demands at claims).0 ((status_none (lacking demands at claims)).0 e), λ h. (status_none (lacking demands at claims)).1 ((lacks_none said spelled demands at claims).1 h))
 passes said spelled printing demands at (Refused fault) payload ran = (refused printing fault ran, λ h. absurd h)
-
-pub lines_pass : AreSaid → AreSpelled → (demands : Demands) (at : Moment) (verdict : Verdict) (states : List SigState) (tries : List Try) (work : ℕ)
-    → ((verify_line demands at verdict states tries work).status ≡ 0) ↔ IsPassed demands at verdict
-lines_pass said spelled demands at verdict states tries work = passes said spelled Lines demands at verdict [] (evidence states tries work)
-
-pub json_passes : AreSaid → AreSpelled → (demands : Demands) (at : Moment) (verdict : Verdict) (payload : List ℕ) (states : List SigState) (tries : List Try) (work : ℕ)
-    → ((verdict_json demands at verdict payload states tries work).status ≡ 0) ↔ IsPassed demands at verdict
-json_passes said spelled demands at verdict payload states tries work = passes said spelled Json demands at verdict payload (evidence states tries work)

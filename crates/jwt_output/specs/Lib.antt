@@ -1,7 +1,5 @@
 -- ---- What contracts of public functions cite, in reading order
 
--- the names of faults, with their places, as the lines of the commands have them
-pub mod Faults
 -- the member of a policy that is near to a name
 pub mod Nearest
 -- the output of a command, and its status
@@ -10,10 +8,8 @@ pub mod Printed
 pub mod Json
 -- the tokens of the objects that are printed, as they are written one by one
 pub mod JsonTokens
--- the answers for a document that is refused, for a read that failed and for a file that can't be read, in JSON or in lines
+-- the answers for a document that is refused, for a read that failed and for a file that can't be read
 pub mod Refused
--- the object of a token, as `jwt show --json` prints it
-pub mod ShownJson
 -- the output of `jwt jwk`
 pub mod Jwk
 -- the line of a tag

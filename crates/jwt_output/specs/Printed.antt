@@ -14,14 +14,8 @@ line_text (part ∷ parts) = part ++ line_text parts
 abbrev pub line : List (List ℕ) → ℕ → Answer
 line parts status = record { text = line_text parts; status = status }
 
-abbrev pub read_failed : Answer
-read_failed = line (codes "failed Read" ∷ []) 3
-
 abbrev pub out_of_memory : Answer
 out_of_memory = line (codes "failed OutOfMemory" ∷ []) 4
-
-abbrev pub refused : List ℕ → Answer
-refused name = line (codes "refused " ∷ name ∷ []) 1
 
 -- From what had gone out to what has gone out: the whole text went out, the writer hasn't failed, unless there was nothing to be
 -- written, and the status is the answer's; or the writer has failed, a prefix of the text went out, and the status is 3.

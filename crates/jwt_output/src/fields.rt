@@ -8,7 +8,6 @@ mod object;
 mod verdict;
 
 pub use field::{Field, FieldName, FieldValue};
-pub use line::fields_line;
 pub use list::Fields;
-pub use object::fields_json;
-pub use verdict::{read_failed, report_answer};
+pub use verdict::report_answer;
+pub(crate) use verdict::{put_claim, put_form};

@@ -1,9 +1,7 @@
 //! The output of `keys --json`.
-ghost use Rattle.std.specs.Prelude.{◌≡◌, IfOk};
 
 use crate::json_out::JsonOut;
 use crate::keys::{kty_of, size_of};
-use crate::reply::Reply;
 use jwt_keys::{Key, KeySet, Skip};
 use std::alloc::{AllocError, Global};
 
@@ -58,11 +56,9 @@ fn put_skips(out: &mut JsonOut, skips: &[Skip]) -> Result<(), AllocError> {
 }
 
 /// The line of a key set.
-pub(crate) fn keys_json(alloc: Global, set: &KeySet) -> Result<Reply, AllocError>
-    ensures { IfOk result (λ a. a.status ≡ 0) }
-{
+pub(crate) fn keys_json(alloc: Global, set: &KeySet) -> Result<Vec<u8>, AllocError> {
     let mut out = JsonOut::object(alloc)?;
     put_keys(&mut out, set)?;
     put_skips(&mut out, set.skipped())?;
-    out.reply(0)
+    out.line()
 }

@@ -1,16 +1,14 @@
 //! One line of JSON, written by the kit's writer.
-ghost use Rattle.std.specs.Prelude.{◌≡◌, ◌++◌, ◌∷◌, [], IfOk, OnOk, option_map};
+ghost use Rattle.std.specs.Prelude.{◌≡◌, ◌++◌, ◌∷◌, [], IfOk, OnOk};
 ghost use Rattle.std.specs.Fmt.{decimal};
 ghost use Rattle.json.specs.Json.{boolean, null, number, string};
 ghost use Rattle.json.specs.Print.{print};
 ghost use Rattle.json.specs.Token.{begin_array, begin_object, end_array, end_object, key};
 ghost use Rattle.json.specs.Tree.{HasNumbers, json_tokens};
 ghost use Rattle.json.specs.Value.{value_view};
-ghost use Rattle.jwt_output.specs.Json.{count, some_text, text, json_value};
+ghost use Rattle.jwt_output.specs.Json.{count, text, json_value};
 ghost use Rattle.jwt_output.specs.JsonTokens.{named_tokens};
-ghost use Rattle.jwt_output.specs.Views.{reply_view};
 
-use crate::reply::Reply;
 use json::{Error, Scratch, Value, Writer};
 use std::alloc::{AllocError, Global};
 use std::marker::Model;
@@ -139,10 +137,7 @@ impl JsonOut {
     }
 
     /// A name with a text, where there is one.
-    pub fn some_text(&mut self, name: &str, value: Option<&str>) -> Result<(), AllocError>
-        ensures { OnOk result (self.new ≡ self.old
-            ++ named_tokens (some_text name.now (option_map (λ t. t.now) value.entry))) }
-    {
+    pub fn some_text(&mut self, name: &str, value: Option<&str>) -> Result<(), AllocError> {
         match value {
             Some(text) => self.text(name, text),
             None => Ok(()),
@@ -186,15 +181,14 @@ impl JsonOut {
     }
 
     /// The object's end, and the line feed behind it.
-    pub fn reply(mut self, status: u8) -> Result<Reply, AllocError>
-        ensures { IfOk result (λ a. reply_view a
-            ≡ record { text = print (self ++ end_object ∷ []) ++ 10 ∷ []; status = status }) }
+    pub fn line(mut self) -> Result<Vec<u8>, AllocError>
+        ensures { IfOk result (λ v. v.items ≡ print (self ++ end_object ∷ []) ++ 10 ∷ []) }
     {
         self.writer.end_object()?;
         let JsonOut { writer } = self;
         let mut text = writer.into_inner();
         text.push(b'\n')?;
-        Ok(Reply { text, status })
+        Ok(text)
     }
 }
 

@@ -1,14 +1,13 @@
 //! The output of `show --json`.
-ghost use Rattle.std.specs.Prelude.{◌≡◌, IfOk, IfSome};
+ghost use Rattle.std.specs.Prelude.{IfSome};
 ghost use Rattle.json.specs.Tree.{HasNumbers};
 ghost use Rattle.json.specs.Value.{value_view};
 
+use crate::fields::{FieldName, Fields, put_claim};
 use crate::json_out::{JsonOut, value_in};
-use crate::json_refusals::{put_claim_place, put_form_place};
-use crate::reply::Reply;
 use crate::show::form_name;
 use json::{Scratch, Value};
-use jwt_jws::{Form, FormFault, Signature, Signed};
+use jwt_jws::{Form, Signature, Signed};
 use jwt_policy::{ClaimFault, Claims};
 use jwt_text::{TextFault, decode};
 use std::alloc::{AllocError, Global};
@@ -128,19 +127,6 @@ fn put_signatures(
     out.end_list()
 }
 
-/// The fault of some claims, and the claim that it names.
-fn put_claim_fault(out: &mut JsonOut, fault: &ClaimFault<'_>) -> Result<(), AllocError> {
-    out.begin_named("claims_refused")?;
-    put_claim_fault_members(out, fault)?;
-    out.end_object()
-}
-
-/// Puts what a fault of the claims names.
-fn put_claim_fault_members(out: &mut JsonOut, fault: &ClaimFault<'_>) -> Result<(), AllocError> {
-    out.text("fault", fault.name())?;
-    put_claim_place(out, fault)
-}
-
 /// Why the claims of a payload are refused before any policy is looked at, if they are.
 fn put_claims_refused(alloc: Global, out: &mut JsonOut, payload: &[u8]) -> Result<(), AllocError> {
     match Claims::read(alloc, payload) {
@@ -149,7 +135,14 @@ fn put_claims_refused(alloc: Global, out: &mut JsonOut, payload: &[u8]) -> Resul
             Ok(())
         }
         Err(ClaimFault::OutOfMemory) => Err(AllocError),
-        Err(fault) => put_claim_fault(out, &fault),
+        Err(fault) => {
+            let mut fields = Fields::none(alloc);
+            fields.word(FieldName::Fault, fault.name())?;
+            put_claim(&mut fields, &fault)?;
+            out.begin_named("claims_refused")?;
+            fields.members(alloc, out)?;
+            out.end_object()
+        }
     }
 }
 
@@ -169,15 +162,18 @@ fn put_unverified(
 }
 
 /// The line of a token that stands in this document.
-fn shown_json(alloc: Global, signed: &Signed<'_>, document: &Value<'_>) -> Result<Reply, AllocError>
+fn shown_json(
+    alloc: Global,
+    signed: &Signed<'_>,
+    document: &Value<'_>,
+) -> Result<Vec<u8>, AllocError>
     requires { HasNumbers (value_view document.now) }
-    ensures { IfOk result (λ a. a.status ≡ 0) }
 {
     let mut out = JsonOut::object(alloc)?;
     out.begin_named("unverified")?;
     put_unverified(alloc, &mut out, signed, document)?;
     out.end_object()?;
-    out.reply(0)
+    out.line()
 }
 
 /// The line of a token that stands in these octets.
@@ -185,31 +181,8 @@ pub(crate) fn token_json(
     alloc: Global,
     octets: &[u8],
     signed: &Signed<'_>,
-) -> Result<Reply, AllocError>
-    ensures { IfOk result (λ a. a.status ≡ 0) }
-{
+) -> Result<Vec<u8>, AllocError> {
     let mut scratch = Scratch::new(alloc);
     let document = value_in(alloc, octets, &mut scratch)?;
     shown_json(alloc, signed, &document)
-}
-
-/// The line of octets that are no signed token.
-pub(crate) fn form_refused_json(alloc: Global, fault: FormFault) -> Result<Reply, AllocError>
-    ensures { IfOk result (λ a. a.status ≡ 1) }
-{
-    let mut out = JsonOut::object(alloc)?;
-    out.text("verdict", "refused")?;
-    out.text("fault", fault.name())?;
-    put_form_place(&mut out, fault)?;
-    out.reply(1)
-}
-
-/// The line of a token over the limit.
-pub(crate) fn too_long_json(alloc: Global) -> Result<Reply, AllocError>
-    ensures { IfOk result (λ a. a.status ≡ 1) }
-{
-    let mut out = JsonOut::object(alloc)?;
-    out.text("verdict", "refused")?;
-    out.text("fault", "TooLong")?;
-    out.reply(1)
 }

@@ -93,11 +93,9 @@ fn set_lines(alloc: Global, set: &KeySet) -> Result<Vec<u8>, AllocError> {
 pub fn printed_set(alloc: Global, printing: Printing, set: &KeySet) -> Result<Reply, AllocError>
     ensures { IfOk result (λ a. a.status ≡ 0) }
 {
-    match printing {
-        Printing::Json => keys_json(alloc, set),
-        Printing::Lines => Ok(Reply {
-            text: set_lines(alloc, set)?,
-            status: 0,
-        }),
-    }
+    let text = match printing {
+        Printing::Json => keys_json(alloc, set)?,
+        Printing::Lines => set_lines(alloc, set)?,
+    };
+    Ok(Reply::of(text, 0))
 }

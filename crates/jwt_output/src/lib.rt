@@ -4,11 +4,9 @@
 //! A [`Reply`] is a whole answer with its status; [`give`] and [`send`] send it. [`JsonOut`] writes the JSON of one.
 #![tactic(auto)]
 
-mod faults;
 pub mod fields;
 mod json_keys;
 mod json_out;
-mod json_refusals;
 mod json_show;
 mod jwk;
 mod keys;
@@ -24,19 +22,18 @@ mod show;
 pub mod terminal;
 pub mod verdicts;
 
-pub use faults::{claim_fault_text, form_fault_text, issue_fault_text};
 pub use json_out::JsonOut;
-pub use json_refusals::{put_claim_place, put_form_place, read_failed_json};
-pub use jwk::{jwk_line, random_failed, refused_jwk};
+pub use jwk::jwk_line;
 pub use keys::printed_set;
 pub use mac::{Digest, digest_line, refused_key};
 pub use nearest::nearest_member;
 pub use pieces::put_labelled;
 pub use pretty::pretty_token;
 pub use refusals::{
-    printed_access_fault, printed_file_fault, printed_keys_fault, printed_policy_fault,
-    printed_read_fault, refused_claims,
+    printed_access_fault, printed_file_fault, printed_form_fault, printed_keys_fault,
+    printed_policy_fault, printed_read_fault, random_failed, refused_claims, refused_issue,
+    refused_jwk, refused_named,
 };
 pub use reply::Reply;
 pub use sending::{give, lack_memory, send};
-pub use show::{printed_form_fault, printed_token, printed_too_long};
+pub use show::printed_token;

@@ -25,10 +25,10 @@ pub fn digest_line(alloc: Global, digest: &Digest) -> Result<Reply, AllocError>
     let tag = hex::encode(alloc, digest.tag.octets())?;
     if digest.equal {
         let text = format!(in alloc; "mac {tag} equal\n")?.into_bytes();
-        Ok(Reply { text, status: 0 })
+        Ok(Reply::of(text, 0))
     } else {
         let text = format!(in alloc; "mac {tag} differ\n")?.into_bytes();
-        Ok(Reply { text, status: 1 })
+        Ok(Reply::of(text, 1))
     }
 }
 

@@ -280,5 +280,5 @@ pub fn pretty_token(
     put_payload(alloc, &mut out, signed.payload())?;
     let mut text = out.into_bytes();
     put_time(alloc, &mut text, now, signed.payload())?;
-    Ok(Reply { text, status: 0 })
+    Ok(Reply::of(text, 0))
 }

@@ -4,6 +4,7 @@
 //! was found in it; where its text can't be JSON, or a name stands twice, it has the [`Position`]. No octet of a
 //! key set is in one, and of a token only the recipients that [`claims_detail`] names. What they say is tested alone.
 mod answers;
+mod cause;
 mod detail;
 mod members;
 mod place;
@@ -13,6 +14,7 @@ mod scan;
 mod sentences;
 
 pub use answers::{around_token, token_sentences};
+pub use cause::Cause;
 pub use detail::claims_detail;
 pub use members::member_words;
 pub use place::{Position, place_behind};

@@ -1,11 +1,11 @@
 //! The lines of a token, with nothing of it verified.
 ghost use Rattle.std.specs.Prelude.{◌≡◌, IfOk};
 
-use crate::faults::{claim_fault_text, form_fault_text};
-use crate::json_show::{form_refused_json, token_json, too_long_json};
+use crate::json_show::token_json;
 use crate::pieces::{put_labelled, put_number, put_quoted, quoted_or_dash};
+use crate::refusals::refused_claims;
 use crate::reply::Reply;
-use jwt_jws::{Form, FormFault, Signature, Signed};
+use jwt_jws::{Form, Signature, Signed};
 use jwt_policy::{ClaimFault, Claims};
 use jwt_settings::Printing;
 use std::alloc::{AllocError, Global};
@@ -104,10 +104,8 @@ pub(crate) fn put_refused_claims(
     out: &mut Vec<u8>,
     fault: &ClaimFault<'_>,
 ) -> Result<(), AllocError> {
-    let name = claim_fault_text(alloc, fault)?;
-    put_labelled(out, "claims refused ", name.as_slice())?;
-    out.push(b'\n')?;
-    Ok(())
+    let line = refused_claims(alloc, fault)?;
+    put_labelled(out, "claims ", line.text.as_slice())
 }
 
 /// Puts the line of the claims.
@@ -145,35 +143,9 @@ pub fn printed_token(
 ) -> Result<Reply, AllocError>
     ensures { IfOk result (λ a. a.status ≡ 0) }
 {
-    match printing {
-        Printing::Json => token_json(alloc, octets, signed),
-        Printing::Lines => Ok(Reply {
-            text: token_lines(alloc, signed)?,
-            status: 0,
-        }),
-    }
-}
-
-/// The octets are no signed token.
-pub fn printed_form_fault(
-    alloc: Global,
-    printing: Printing,
-    fault: FormFault,
-) -> Result<Reply, AllocError>
-    ensures { IfOk result (λ a. a.status ≡ 1) }
-{
-    match printing {
-        Printing::Json => form_refused_json(alloc, fault),
-        Printing::Lines => Reply::refused(alloc, form_fault_text(alloc, fault)?.as_str()),
-    }
-}
-
-/// The token is over the limit.
-pub fn printed_too_long(alloc: Global, printing: Printing) -> Result<Reply, AllocError>
-    ensures { IfOk result (λ a. a.status ≡ 1) }
-{
-    match printing {
-        Printing::Json => too_long_json(alloc),
-        Printing::Lines => Reply::refused(alloc, "TooLong"),
-    }
+    let text = match printing {
+        Printing::Json => token_json(alloc, octets, signed)?,
+        Printing::Lines => token_lines(alloc, signed)?,
+    };
+    Ok(Reply::of(text, 0))
 }

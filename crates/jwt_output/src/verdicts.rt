@@ -9,4 +9,4 @@ mod verdict;
 
 pub use demands::Demands;
 pub use meant::printed_policy;
-pub use verdict::{report_json, report_line};
+pub use verdict::printed_report;

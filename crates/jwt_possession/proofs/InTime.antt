@@ -2,7 +2,7 @@
 use Rattle.std.proofs.Common.{◌≡◌, ℕ, ℤ, pos, negsuc, ◌+◌, ◌+ℤ◌, ◌≤ℤ◌, ◌≤◌, Option, Some, unwrap_or, arith}
 use Rattle.std.proofs.lemmas.Int.{ints}
 use Rattle.std.specs.Option.{option_map_or}
-use Rattle.jwt_once.specs.Accepted.{seconds}
+use Rattle.jwt_possession.specs.once.Accepted.{seconds}
 
 aged : (now iat : ℤ) (age : ℕ) → now ≤ℤ (iat +ℤ pos age) → seconds now ≤ seconds iat + age
 aged (pos n) (pos i) a h = grind (arith, ints, h)

@@ -1,21 +1,30 @@
 -- What is a proof has no fault.
-use Rattle.std.proofs.Common.{◌≡◌, ℕ, Bool, true, false, not, List, [], ◌∷◌, codes, length, slice_get, Option, Some, None, Ok, Err, refl, sym, ap, subst, ◌∙◌}
+use Rattle.std.proofs.Common.{◌≡◌, ◌++◌, ℕ, ℤ, Bool, true, false, not, List, [], ◌∷◌, codes, length, slice_get, Option, Some, None, Ok, Err, refl, sym, ap, subst, ◌∙◌, inl, inr}
+use Rattle.std.specs.Prelude.{◌↔◌}
 use Rattle.std.specs.Option.{option_map_or, IfSome}
 use Rattle.std.specs.Str.{bytes_eq}
 use Rattle.std.proofs.lemmas.Slice.Eq.{bytes_eq-Decides}
 use Rattle.serde_json.specs.Data.{Members}
 use Rattle.jwt_text.specs.Members.{text_at}
-use Rattle.jwt_text.specs.Rows.{Row, first_row}
+use Rattle.jwt_text.specs.ObjectText.{object_of, IsObjectText}
+use Rattle.jwt_text.specs.Rows.{Row, first_row, IsFirstRow}
+use Rattle.jwt_text.proofs.RowsLemmas.{first_row_is, no_row_is}
+use Rattle.jwt_mac.specs.Verifying.{Meaning}
 use Rattle.jwt_jws.specs.declared.fault.Form.TheVariants.{Compact}
 use Rattle.jwt_jws.specs.Token.{Token, SignatureParts}
 use Rattle.jwt_keys.specs.Keys.{KeyParts}
+use Rattle.jwt_policy.specs.Bars.{bar_rows}
+use Rattle.jwt_policy.specs.Checks.{check_of, check_rows}
+use Rattle.jwt_policy.specs.ClaimKinds.{kind_rows}
+use Rattle.jwt_policy.specs.Laws.{ClaimsHold}
 use Rattle.jwt_policy.specs.Settings.{Settings}
 use Rattle.jwt_policy.specs.Texts.{some_passes}
-use Rattle.jwt_verify.specs.Asks.{IsToken}
-use Rattle.jwt_verify.specs.Accepted.{IsAccepted, IsFault, IsTokenFault, AcceptsExactly, RefusesExactly, TellsTokens, TellsTokenFaults}
-use Rattle.jwt_verify.specs.Verdict.{Terms}
+use Rattle.jwt_policy.proofs.RowsLemmas.{first_of_both}
+use Rattle.jwt_verify.specs.Accepted.{HasClaims, TellsTokens, TellsTokenFaults}
+use Rattle.jwt_verify.specs.Reports.{FoundMemory}
 use Rattle.jwt_verify.specs.declared.report.Fault.{Fault}
-use Rattle.jwt_verify.specs.declared.report.Verdict.TheVariants.{Accepted, Refused}
+use Rattle.jwt_verify.specs.declared.report.Fault.TheVariants as token_fault
+use Rattle.jwt_verify.specs.declared.report.Verdict.TheVariants.{Refused}
 use Rattle.jwt_possession.specs.declared.own_key.KeyFault.{KeyFault}
 use Rattle.jwt_possession.specs.declared.own_key.KeyFault.TheVariants as key_fault
 use Rattle.jwt_possession.specs.declared.proof.ProofFault.TheVariants.{NoToken, NoKey, OtherKey, NotAccepted, OtherRequest, OutOfMemory}
@@ -24,11 +33,20 @@ use Rattle.jwt_possession.specs.declared.request.RequestFault.{RequestFault}
 use Rattle.jwt_possession.specs.Bindings.{bound_key, digest_text}
 use Rattle.jwt_possession.specs.HeaderKey.{header_key_of}
 use Rattle.jwt_possession.specs.Laws.{ProofsHaveNoFault}
-use Rattle.jwt_possession.specs.Proofs.{terms_with, HasOwnKey, IsKeyFault}
+use Rattle.jwt_possession.specs.Proofs.{HasOwnKey, IsKeyFault, IsRefusal, IsVerifiedByKey}
 use Rattle.jwt_possession.specs.Paths.{has_agreed_path}
 use Rattle.jwt_possession.specs.Requests.{IsForRequest, is_text, is_nonce, is_access, is_key, request_rows}
 use Rattle.jwt_possession.specs.Uris.{normal_uri, same_uri}
+use Rattle.jwt_possession.proofs.OneToken.{no_token_fault, one_token}
 use Rattle.jwt_possession.proofs.Policies.{FailsEach}
+
+-- octets are the text of one object at most
+abbrev pub TellsObjects : Type 0
+TellsObjects = (text : List ℕ) (ms : Members) → (object_of text ≡ Ok ms) ↔ IsObjectText text ms
+
+-- claims hold exactly where no check refuses them
+abbrev pub TellsChecks : Type 0
+TellsChecks = (p : Settings) (ms : Members) (now : ℤ) → (check_of p ms now ≡ None) ↔ ClaimsHold p ms now
 
 -- ---- claims that are for the request are refused by no row
 
@@ -85,30 +103,22 @@ is_bound claims request thumbprint h =
     if_there (λ access. some_passes (λ text. bytes_eq text thumbprint) (bound_key access.claims.now)) (λ access. bound_key access.claims.now ≡ Some thumbprint)
     (λ access is. is_that (bound_key access.claims.now) thumbprint is) request.access h.key
 
--- ---- there is one token, one key and one verdict
+-- ---- there is one token, one key and one list of claims
 
-one_token : TellsTokens → (policy : Settings) (octets : List ℕ) (a b : Token) → IsToken policy octets a → IsToken policy octets b → a ≡ b
-one_token tells policy octets a b h g = let same : Ok a ≡ Ok b = sym ((tells policy octets a).1 h) ∙ (tells policy octets b).1 g in cc
-
-one_key : (a b : Token) (key other : KeyParts) → a ≡ b → HasOwnKey a key → HasOwnKey b other → key ≡ other
-one_key a b key other same h g =
+pub same_signature : (a b : Token) (key other : KeyParts) → a ≡ b → (h : HasOwnKey a key) → (g : HasOwnKey b other) → h.signature ≡ g.signature
+same_signature a b key other same h g =
     let firsts : Some h.signature ≡ Some g.signature = sym h.first ∙ ap (λ (t : Token). slice_get t.signatures 0) same ∙ g.first in
-    let signatures : h.signature ≡ g.signature = cc in
-    let keys : Ok key ≡ Ok other = sym h.own_key ∙ ap header_key_of signatures ∙ g.own_key in
     cc
 
-one_acceptance : AcceptsExactly → (terms : Terms) (octets : List ℕ) (ceiling s k t l : ℕ) (claims others : Members)
-    → IsAccepted terms octets ceiling s k claims → IsAccepted terms octets ceiling t l others → claims ≡ others
-one_acceptance accepts terms octets ceiling s k t l claims others h g =
-    let same : Accepted s k claims ≡ Accepted t l others = sym ((accepts terms octets ceiling s k claims).1 h) ∙ (accepts terms octets ceiling t l others).1 g in
+pub one_key : (a b : Token) (key other : KeyParts) → a ≡ b → HasOwnKey a key → HasOwnKey b other → key ≡ other
+one_key a b key other same h g =
+    let keys : Ok key ≡ Ok other = sym h.own_key ∙ ap header_key_of (same_signature a b key other same h g) ∙ g.own_key in
     cc
+
+pub one_object : TellsObjects → (payload : List ℕ) (claims others : Members) → IsObjectText payload claims → IsObjectText payload others → claims ≡ others
+one_object objects payload claims others h g = let same : Ok claims ≡ Ok others = sym ((objects payload claims).1 h) ∙ (objects payload others).1 g in cc
 
 -- ---- each fault
-
-no_token_fault : TellsTokens → TellsTokenFaults → (policy : Settings) (octets : List ℕ) (token : Token) (fault : Fault) → IsToken policy octets token → ¬ IsTokenFault policy octets fault
-no_token_fault tells faults policy octets token fault h g =
-    let both : Ok token ≡ Err fault = sym ((tells policy octets token).1 h) ∙ (faults policy octets fault).1 g in
-    absurd cc
 
 other_header : (a b : Token) (key : KeyParts) (fault : KeyFault) → a ≡ b → HasOwnKey a key → ¬ ((signature : SignatureParts) × (slice_get b.signatures 0 ≡ Some signature) × (header_key_of signature ≡ Err fault))
 other_header a b key fault same h g =
@@ -117,18 +127,40 @@ other_header a b key fault same h g =
     let keys : Ok key ≡ Err fault = sym h.own_key ∙ ap header_key_of signatures ∙ g.2 in
     absurd cc
 
-no_key_fault : (a b : Token) (key : KeyParts) (fault : KeyFault) → a ≡ b → HasOwnKey a key → ¬ IsKeyFault b fault
+pub no_key_fault : (a b : Token) (key : KeyParts) (fault : KeyFault) → a ≡ b → HasOwnKey a key → ¬ IsKeyFault b fault
 no_key_fault a b key key_fault.NotCompact same h g = g (subst (λ (t : Token). t.form ≡ Compact) same h.compact) (subst (λ (t : Token). length t.signatures ≡ 1) same h.alone)
 no_key_fault a b key key_fault.KeyMissing same h g = other_header a b key key_fault.KeyMissing same h g.2
 no_key_fault a b key key_fault.KeyPrivate same h g = other_header a b key key_fault.KeyPrivate same h g.2
 no_key_fault a b key key_fault.KeyUnreadable same h g = other_header a b key key_fault.KeyUnreadable same h g.2
 no_key_fault a b key key_fault.OutOfMemory same h g = other_header a b key key_fault.OutOfMemory same h g.2
 
-not_refused : AcceptsExactly → RefusesExactly → (terms : Terms) (octets : List ℕ) (ceiling s k : ℕ) (claims : Members) (fault : Fault)
-    → IsAccepted terms octets ceiling s k claims → ¬ IsFault terms octets ceiling fault
-not_refused accepts refuses terms octets ceiling s k claims fault h g =
-    let both : Accepted s k claims ≡ Refused fault = sym ((accepts terms octets ceiling s k claims).1 h) ∙ (refuses terms octets ceiling fault).1 g in
-    absurd cc
+pub not_both : {A : Type 0} (rows : List (Row A)) (a : A) → first_row rows ≡ None → ¬ IsFirstRow rows a
+not_both rows a none first = let both : None ≡ Some a = sym none ∙ (first_row_is rows a).1 first in absurd cc
+
+no_claim_row : TellsChecks → (policy : Settings) (now : ℤ) (payload : List ℕ) (claims : Members) → HasClaims payload claims → ClaimsHold policy claims now
+    → first_row (kind_rows claims ++ check_rows policy claims now) ≡ None
+unfolding check_of
+no_claim_row checks policy now payload claims h holds =
+    first_of_both (kind_rows claims) (check_rows policy claims now) ∙ rw ((no_row_is (kind_rows claims)).1 h.1) ((checks policy claims now).1 holds)
+
+pub not_refused : TellsObjects → TellsChecks → (policy : Settings) (verifiers : List Meaning) (now : ℤ) (token : Token) (signature : SignatureParts) (key : KeyParts) (claims : Members) (fault : Fault)
+    → IsVerifiedByKey policy verifiers token signature key → HasClaims token.payload claims → ClaimsHold policy claims now → FoundMemory (Refused fault)
+    → ¬ IsRefusal policy verifiers now token signature key fault
+not_refused objects checks policy verifiers now token signature key claims token_fault.OutOfMemory v has_claims holds found g = found
+not_refused objects checks policy verifiers now token signature key claims token_fault.VerifierMemory v has_claims holds found g = found
+not_refused objects checks policy verifiers now token signature key claims (token_fault.Signature n fault) v has_claims holds found (zero, inl first) =
+    not_both (bar_rows policy signature verifiers) fault ((no_row_is (bar_rows policy signature verifiers)).1 v.eligible.unbarred) first
+not_refused objects checks policy verifiers now token signature key claims (token_fault.Signature n fault) v has_claims holds found (zero, inr (inl (is, none, not))) = not v.eligible
+not_refused objects checks policy verifiers now token signature key claims (token_fault.Signature n fault) v has_claims holds found (zero, inr (inr (is, eligible, allowed, not))) = not v
+not_refused objects checks policy verifiers now token signature key claims (token_fault.CallsExceeded n m) v has_claims holds found g = v.allowed g.3
+not_refused objects checks policy verifiers now token signature key claims (token_fault.Claim fault) v has_claims holds found (is, inl (shape, none)) = none claims has_claims.0
+not_refused objects checks policy verifiers now token signature key claims (token_fault.Claim fault) v has_claims holds found (is, inr (others, object, first)) =
+    let same = one_object objects token.payload claims others has_claims.0 object in
+    not_both (kind_rows claims ++ check_rows policy claims now) fault (no_claim_row checks policy now token.payload claims has_claims holds)
+    (subst (λ (ms : Members). IsFirstRow (kind_rows ms ++ check_rows policy ms now) fault) (sym same) first)
+not_refused objects checks policy verifiers now token signature key claims (token_fault.WorkExceeded n m) v has_claims holds found g = g
+not_refused objects checks policy verifiers now token signature key claims (token_fault.Text fault) v has_claims holds found g = g
+not_refused objects checks policy verifiers now token signature key claims (token_fault.Form fault) v has_claims holds found g = g
 
 no_other_request : (claims others : Members) (request : Request) (thumbprint : List ℕ) (fault : RequestFault) → claims ≡ others
     → IsForRequest claims request thumbprint → ¬ (first_row (request_rows others request) ≡ Some fault)
@@ -137,26 +169,33 @@ no_other_request claims others request thumbprint fault same h g =
     let both : None ≡ Some fault = sym none ∙ g in
     absurd cc
 
-pub no_fault : TellsTokens → TellsTokenFaults → AcceptsExactly → RefusesExactly → ProofsHaveNoFault
-no_fault tells faults accepts refuses policy verifiers now request octets key claims (NoToken fault) h of g =
+pub refused_here : (policy : Settings) (verifiers : List Meaning) (now : ℤ) (a b : Token) (s t : SignatureParts) (key other : KeyParts) (fault : Fault) → a ≡ b → s ≡ t → key ≡ other
+    → IsRefusal policy verifiers now b t other fault → IsRefusal policy verifiers now a s key fault
+refused_here policy verifiers now a b s t key other fault tokens signatures keys h =
+    subst (λ (x : Token). IsRefusal policy verifiers now x s key fault) (sym tokens)
+    (subst (λ (x : SignatureParts). IsRefusal policy verifiers now b x key fault) (sym signatures)
+    (subst (λ (x : KeyParts). IsRefusal policy verifiers now b t x fault) (sym keys) h))
+
+pub no_fault : TellsTokens → TellsTokenFaults → TellsObjects → TellsChecks → ProofsHaveNoFault
+no_fault tells faults objects checks policy verifiers now request octets key claims (NoToken fault) h of g =
     no_token_fault tells faults policy octets h.signed.token fault h.signed.read (g of)
-no_fault tells faults accepts refuses policy verifiers now request octets key claims (NoKey fault) h of g =
+no_fault tells faults objects checks policy verifiers now request octets key claims (NoKey fault) h of g =
     let it = g of in
     no_key_fault h.signed.token it.0 key fault (one_token tells policy octets h.signed.token it.0 h.signed.read it.1) h.signed.has_own_key it.2
-no_fault tells faults accepts refuses policy verifiers now request octets key claims OtherKey h of g =
+no_fault tells faults objects checks policy verifiers now request octets key claims OtherKey h of g =
     let it = g in
     let same = one_key h.signed.token it.0 key it.1 (one_token tells policy octets h.signed.token it.0 h.signed.read it.2) h.signed.has_own_key it.3 in
     let both : true ≡ false = sym (is_bound claims request key.thumbprint h.for_request) ∙ ap (λ (k : KeyParts). is_key request k.thumbprint) same ∙ it.4 in
     absurd cc
-no_fault tells faults accepts refuses policy verifiers now request octets key claims (NotAccepted fault) h of g =
-    let it = g of in
-    let same = one_key h.signed.token it.0 key it.1 (one_token tells policy octets h.signed.token it.0 h.signed.read it.2) h.signed.has_own_key it.3 in
-    not_refused accepts refuses (terms_with policy key now verifiers) octets policy.run.work h.signed.signature_number h.signed.key_number claims fault h.signed.accepted
-    (subst (λ (k : KeyParts). IsFault (terms_with policy k now verifiers) octets policy.run.work fault) (sym same) it.5)
-no_fault tells faults accepts refuses policy verifiers now request octets key claims (OtherRequest fault) h of g =
+no_fault tells faults objects checks policy verifiers now request octets key claims (NotAccepted fault) h of (token, other, is, own, bound, refusal) =
+    let same = one_token tells policy octets h.signed.token token h.signed.read is in
+    not_refused objects checks policy verifiers now h.signed.token h.signed.has_own_key.signature key claims fault h.signed.verified h.signed.has_claims h.signed.hold of
+    (refused_here policy verifiers now h.signed.token token h.signed.has_own_key.signature own.signature key other fault same
+    (same_signature h.signed.token token key other same h.signed.has_own_key own) (one_key h.signed.token token key other same h.signed.has_own_key own) refusal)
+no_fault tells faults objects checks policy verifiers now request octets key claims (OtherRequest fault) h of g =
     let other = g.2 in
-    let same = one_key h.signed.token other.token key g.0 (one_token tells policy octets h.signed.token other.token h.signed.read other.read) h.signed.has_own_key other.has_own_key in
-    let accepted = subst (λ (k : KeyParts). IsAccepted (terms_with policy k now verifiers) octets policy.run.work other.signature_number other.key_number g.1) (sym same) other.accepted in
-    let alike = one_acceptance accepts (terms_with policy key now verifiers) octets policy.run.work h.signed.signature_number h.signed.key_number other.signature_number other.key_number claims g.1 h.signed.accepted accepted in
+    let same = one_token tells policy octets h.signed.token other.token h.signed.read other.read in
+    let read = subst (λ (t : Token). IsObjectText t.payload g.1) (sym same) other.has_claims.0 in
+    let alike = one_object objects h.signed.token.payload claims g.1 h.signed.has_claims.0 read in
     no_other_request claims g.1 request key.thumbprint fault alike h.for_request g.4
-no_fault tells faults accepts refuses policy verifiers now request octets key claims OutOfMemory h of g = of
+no_fault tells faults objects checks policy verifiers now request octets key claims OutOfMemory h of g = of

@@ -6,10 +6,10 @@ use Rattle.jwt_keys.specs.Keys.{KeyParts}
 use Rattle.jwt_policy.specs.Settings.{Settings}
 use Rattle.jwt_policy.specs.Checks.{check_of}
 use Rattle.jwt_text.specs.Members.{whole_at}
-use Rattle.jwt_once.specs.declared.once.Once.{Once}
-use Rattle.jwt_once.specs.Accepted.{seconds}
-use Rattle.jwt_once.specs.Marks.{mark_of}
-use Rattle.jwt_once.specs.Laws.{Call, IsTakenTwice}
+use Rattle.jwt_possession.specs.declared.once.once.Once.{Once}
+use Rattle.jwt_possession.specs.once.Accepted.{seconds}
+use Rattle.jwt_possession.specs.once.Marks.{mark_of}
+use Rattle.jwt_possession.specs.once.Laws.{Call, IsTakenTwice}
 use Rattle.jwt_possession.specs.Possessions.{id_of, proof_times}
 use Rattle.jwt_possession.specs.Uris.{decoded, normal_path}
 use Rattle.jwt_possession.specs.Paths.{is_normal_path}
@@ -23,7 +23,7 @@ use Rattle.jwt_possession.specs.declared.own_key.KeyFault.TheVariants as key_fau
 use Rattle.jwt_possession.specs.declared.proof.ProofFault.{ProofFault}
 use Rattle.jwt_possession.specs.declared.proof.ProofFault.TheVariants.{NoToken, NoKey, OtherKey, NotAccepted, OtherRequest, OutOfMemory}
 use Rattle.jwt_possession.specs.declared.request.Request.{Request}
-use Rattle.jwt_possession.specs.Proofs.{IsProof, IsProofFault}
+use Rattle.jwt_possession.specs.Proofs.{IsSignedByOwnKey, IsProof, IsProofFault}
 
 -- the fault says something of the octets: it isn't want of memory
 abbrev pub IsOfOctets : ProofFault → Type 0
@@ -38,6 +38,16 @@ IsOfOctets OutOfMemory = ⊥
 abbrev pub ProofsHaveNoFault : Type 0
 ProofsHaveNoFault = (policy : Settings) (verifiers : List Meaning) (now : ℤ) (request : Request) (octets : List ℕ) (key : KeyParts) (claims : Members) (fault : ProofFault)
     → IsProof policy verifiers now request octets key claims → IsOfOctets fault → ¬ IsProofFault policy verifiers now request octets fault
+
+-- and octets have one fault at most, want of memory aside
+abbrev pub ProofsHaveOneFault : Type 0
+ProofsHaveOneFault = (policy : Settings) (verifiers : List Meaning) (now : ℤ) (request : Request) (octets : List ℕ) (fault other : ProofFault)
+    → IsOfOctets fault → IsOfOctets other → IsProofFault policy verifiers now request octets fault → IsProofFault policy verifiers now request octets other → fault ≡ other
+
+-- octets are signed by one key of their own at most, and have one set of claims
+abbrev pub OneOwnKey : Type 0
+OneOwnKey = (policy : Settings) (verifiers : List Meaning) (now : ℤ) (octets : List ℕ) (key other : KeyParts) (claims others : Members)
+    → IsSignedByOwnKey policy verifiers now octets key claims → IsSignedByOwnKey policy verifiers now octets other others → (other ≡ key) × (others ≡ claims)
 
 -- the call is what one for a proof with these claims by the key of this thumbprint, accepted under this policy, comes to
 abbrev pub IsCallForProof : Settings → (thumbprint : List ℕ) → Members → Call → Type 0

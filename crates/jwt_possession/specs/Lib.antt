@@ -24,6 +24,8 @@ pub mod AlgNames
 pub mod Nonces
 -- the names of faults
 pub mod FaultNames
+-- tokens that count once
+pub mod once
 -- ---- What laws alone cite
 
 -- that no octets are a proof and have a fault, and that a proof is new once

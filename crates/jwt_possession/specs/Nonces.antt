@@ -6,7 +6,7 @@ use Rattle.jwt_text.specs.Base64url.{spelling}
 use Rattle.jwt_text.specs.Members.{text_at}
 use Rattle.jwt_mac.specs.Algorithm.{tag_of}
 use Rattle.jwt_mac.specs.declared.algorithm.Alg.TheVariants.{HS256}
-use Rattle.jwt_once.specs.Accepted.{seconds}
+use Rattle.jwt_possession.specs.once.Accepted.{seconds}
 use Rattle.jwt_possession.specs.declared.nonces.Nonces.{Nonces}
 
 -- what nonces are made of: the service's secret, and how many seconds a period has

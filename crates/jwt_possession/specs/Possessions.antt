@@ -4,9 +4,9 @@ use Rattle.std.specs.Option.{option_map_or}
 use Rattle.serde_json.specs.Data.{Members}
 use Rattle.jwt_text.specs.Members.{text_at, whole_at}
 use Rattle.jwt_policy.specs.Settings.{Settings}
-use Rattle.jwt_once.specs.declared.once.Times.{Times}
-use Rattle.jwt_once.specs.Accepted.{seconds, issued_of, owner_in}
-use Rattle.jwt_once.specs.Marks.{mark_of}
+use Rattle.jwt_possession.specs.declared.once.once.Times.{Times}
+use Rattle.jwt_possession.specs.once.Accepted.{seconds, issued_of, owner_in}
+use Rattle.jwt_possession.specs.once.Marks.{mark_of}
 use Rattle.jwt_possession.specs.declared.possession.Possession.{Possession}
 
 -- the thumbprint of the key that was proved to be held (RFC 7638), the claims of the proof, whose it is, and its times

@@ -1,20 +1,38 @@
 //! Laws of the definitions: each function does nothing, and its contract holds of all octets.
 
-ghost use Rattle.jwt_possession.specs.Laws.{AllShown, NoProofTwice, NormalPaths, ProofsHaveNoFault, ProofsInTime};
+ghost use Rattle.jwt_possession.specs.Laws.{AllShown, NoProofTwice, NormalPaths, OneOwnKey, ProofsHaveNoFault, ProofsHaveOneFault, ProofsInTime};
 ghost use Rattle.jwt_possession.specs.UriLaws.{NoDots, NormalExamples, NormalIsNormal, SameAsItsNormal, SameBothWays, SameByParts, SameThroughout};
 
-use jwt_once::laws::{issued_before, never_twice};
+use crate::once::laws::{issued_before, never_twice};
 use jwt_policy::laws::claims_hold;
-use jwt_verify::laws::{accepts_exactly, refuses_exactly, tells_tokens};
+use jwt_text::laws::object_texts;
+use jwt_verify::laws::tells_tokens;
 
-/// No octets are a proof and have a fault, want of memory aside. So what [`judge_proof`](crate::judge_proof) says of them is what there is to be said, and no
-/// other answer meets its clauses.
+/// No octets are a proof and have a fault, want of memory aside.
 pub fn proofs_have_no_fault()
     ensures { ProofsHaveNoFault }
 {
     tells_tokens();
-    accepts_exactly();
-    refuses_exactly();
+    object_texts();
+    claims_hold();
+}
+
+/// Octets that are signed by a key in their own header are so by one key, and have one set of claims.
+pub fn one_own_key()
+    ensures { OneOwnKey }
+{
+    tells_tokens();
+    object_texts();
+}
+
+/// Octets have one fault at most, want of memory aside. With [`proofs_have_no_fault`] this says that what [`judge_proof`](crate::judge_proof) says of them is what
+/// there is to be said, and no other answer meets its clauses.
+pub fn proofs_have_one_fault()
+    ensures { ProofsHaveOneFault }
+{
+    tells_tokens();
+    object_texts();
+    claims_hold();
 }
 
 /// A proof is never New twice, under whatever policies for proofs, and whatever else is taken.

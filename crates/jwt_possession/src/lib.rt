@@ -7,7 +7,7 @@
 //! one that it is bound to.
 //!
 //! ```rust
-//! use jwt_possession::{Access, ProofPolicy, Request, judge_proof};
+//! use crate::{Access, ProofPolicy, Request, judge_proof};
 //!
 //! let document = b"{\"algs\":[\"ES256\"],\"typ\":\"dpop+jwt\",\"required\":[\"jti\",\"htm\",\"htu\",\"iat\"],\"max_age\":60}";
 //! let policy = ProofPolicy::read(alloc, document)?;
@@ -28,6 +28,7 @@ mod alg_names;
 mod binding;
 pub mod laws;
 mod nonces;
+pub mod once;
 mod own_key;
 mod path;
 mod policy;

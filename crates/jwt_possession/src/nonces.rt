@@ -21,7 +21,7 @@ pub const NONCE_SECRET_LEN: usize = 32;
 /// The secret is random, and serves for nothing else. Whoever knows it knows each nonce, now and ever.
 ///
 /// ```rust
-/// use jwt_possession::Nonces;
+/// use crate::Nonces;
 ///
 /// let Some(nonces) = Nonces::of(secret, 300) else { return Err(..) };
 /// let possession = judge_proof(alloc, proof, &request, &policy, now, &verifiers)?;

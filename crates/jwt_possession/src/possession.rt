@@ -1,13 +1,13 @@
 //! What a proof that was accepted says.
 
 ghost use Rattle.std.specs.Prelude.{◌≡◌, IfOk, option_map};
-ghost use Rattle.jwt_once.specs.Accepted.{seconds};
-ghost use Rattle.jwt_once.specs.Steps.{IsTaken};
+ghost use Rattle.jwt_possession.specs.once.Accepted.{seconds};
+ghost use Rattle.jwt_possession.specs.once.Steps.{IsTaken};
 ghost use Rattle.jwt_possession.specs.Possessions.{owner_beside, proof_times};
 
+use crate::once::{Entry, Once, Taken, Times, issued_of, owner_in, owner_of};
 use crate::policy::ProofPolicy;
 use crate::request::Access;
-use jwt_once::{Entry, Once, Taken, Times, issued_of, owner_in, owner_of};
 use jwt_policy::Claims;
 use std::alloc::{AllocError, Global};
 
@@ -101,7 +101,7 @@ impl Possession {
         self.claims.jti().unwrap_or("")
     }
 
-    /// Whose the proof is: as the access token that came with it, by [`jwt_once::owner_in`], or its key's where none came. A key costs nothing, so that whoever
+    /// Whose the proof is: as the access token that came with it, by [`crate::once::owner_in`], or its key's where none came. A key costs nothing, so that whoever
     /// has a token could make an owner for each proof.
     pub fn owner(&self) -> Option<[u8; 32]>
         ensures { result ≡ (proved self.now).owner }

@@ -5,11 +5,8 @@ ghost use Rattle.jwt_jws.specs.Views.{token};
 ghost use Rattle.jwt_keys.specs.Keys.{KeyParts};
 ghost use Rattle.jwt_keys.specs.KeySets.{key_set};
 ghost use Rattle.jwt_verify.specs.Asks.{IsToken};
-ghost use Rattle.jwt_verify.specs.Accepted.{IsAccepted, IsFault};
-ghost use Rattle.jwt_verify.specs.Reports.{FoundMemory, terms};
-ghost use Rattle.jwt_verify.specs.declared.report.Verdict.TheVariants.{Refused};
 ghost use Rattle.jwt_possession.specs.Possessions.{owner_beside, proved, proof_times};
-ghost use Rattle.jwt_possession.specs.Proofs.{IsSignedByOwnKey, IsProof, IsProofFault};
+ghost use Rattle.jwt_possession.specs.Proofs.{HasOwnKey, IsSignedByOwnKey, IsProof, IsRefusal, IsProofFault};
 ghost use Rattle.jwt_possession.specs.Requests.{is_key};
 
 use crate::own_key::{KeyFault, own_key};
@@ -21,6 +18,7 @@ use jwt_keys::KeySet;
 use jwt_mac::Verifier;
 use jwt_policy::{Claims, Policy};
 use jwt_text::Scratch;
+use jwt_verify::laws::tells_tokens;
 use jwt_verify::{Fault, Report, Verdict, judge_token, read_token};
 use std::alloc::Global;
 
@@ -60,7 +58,7 @@ impl<'p> ProofFault<'p> {
     }
 }
 
-/// The claims of a token that was read, where the policy accepts it by the keys of this set.
+/// The claims of a token that was read, where the policy accepts it by its own key, the only one of this set.
 fn accepted_by<'p>(
     alloc: Global,
     signed: &Signed<'_>,
@@ -69,15 +67,17 @@ fn accepted_by<'p>(
     now: i64,
     verifiers: &[Box<dyn Verifier>],
 ) -> Result<Claims, Fault<'p>>
-    ensures accepted { IfOk result (λ claims. (x : List ℕ) → IsToken policy.now x (token signed.now)
-        → (signature : ℕ) × (key : ℕ)
-        × IsAccepted (terms policy.now keys.now now (map meaning verifiers.now))
-        x policy.now.run.work signature key claims) }
-    ensures fault { IfErr result (λ fault. (x : List ℕ) → IsToken policy.now x (token signed.now)
-        → FoundMemory (Refused fault)
-        → IsFault (terms policy.now keys.now now (map meaning verifiers.now))
-        x policy.now.run.work fault) }
+    ensures accepted { IfOk result (λ claims. (x : List ℕ) (key : KeyParts)
+        → IsToken policy.now x (token signed.now) → HasOwnKey (token signed.now) key
+        → (key_set keys.now).keys ≡ key ∷ []
+        → IsSignedByOwnKey policy.now (map meaning verifiers.now) now x key claims) }
+    ensures fault { IfErr result (λ fault. (x : List ℕ) (key : KeyParts)
+        → IsToken policy.now x (token signed.now) → (own : HasOwnKey (token signed.now) key)
+        → (key_set keys.now).keys ≡ key ∷ []
+        → IsRefusal policy.now (map meaning verifiers.now) now (token signed.now) own.signature key
+        fault) }
 {
+    tells_tokens();
     let mut budget = policy.budget();
     let mut scratch = Scratch::new(alloc);
     let Report {
@@ -158,7 +158,7 @@ fn thumbprint_of(keys: &KeySet) -> &str
 /// [`judge`](jwt_verify::judge).
 ///
 /// The header's key is tried on this proof, and on nothing else. Its `kid`, `alg`, `use` and `key_ops`, where they are there, count as
-/// those of a key in a key set.
+/// those of a key in a key set. The try is one call, which only a `max_calls` of 0 refuses, and costs no work of the policy's.
 ///
 /// # Errors
 /// The first that holds of `NoToken`, `NoKey`, `OtherKey`, `NotAccepted` and `OtherRequest`. `OutOfMemory` comes where an allocation was refused, by

@@ -1,11 +1,13 @@
--- That each 401 has a challenge.
+-- That each 401 has a challenge, and each value of `Authorization` one meaning.
 use Rattle.std.specs.Prelude.{◌≡◌, ◌≢◌, ◌⊎◌, ℕ, List, [], Option}
 use Rattle.jwt_request.specs.declared.scheme.Scheme.{Scheme}
 use Rattle.jwt_request.specs.declared.scheme.Scheme.TheVariants.{Bearer, Dpop}
 use Rattle.jwt_request.specs.declared.scheme.Schemes.{Schemes}
+use Rattle.jwt_request.specs.declared.credentials.Credentials.{Credentials}
 use Rattle.jwt_request.specs.declared.replies.Reply.{Reply}
 use Rattle.jwt_request.specs.declared.replies.Outcome.{Outcome}
 use Rattle.jwt_request.specs.declared.challenge.Challenge.{Challenge}
+use Rattle.jwt_request.specs.Spelled.{IsFound}
 use Rattle.jwt_request.specs.Replies.{IsReply}
 use Rattle.jwt_request.specs.Challenges.{challenge_text}
 
@@ -17,3 +19,7 @@ IsSent scheme challenge = (realm scope algs : List ℕ) → challenge_text schem
 abbrev pub Challenged : Type 0
 Challenged = (schemes : Schemes) (shown : Option Scheme) (outcome : Outcome) (reply : Reply) → IsReply schemes shown outcome reply
     → reply.status ≡ 401 → IsSent Bearer reply.bearer ⊎ IsSent Dpop reply.dpop
+
+-- what is found in a value is one thing
+abbrev pub OneFound : Type 0
+OneFound = (schemes : Schemes) (value : List ℕ) (one other : Credentials) → IsFound schemes value one → IsFound schemes value other → other ≡ one

@@ -6,7 +6,11 @@ pub mod Spelled
 pub mod Replies
 -- the text of a challenge
 pub mod Challenges
+-- when keys by URL are fetched, and until when they are used
+pub mod renewal
+-- from which URLs keys are fetched
+pub mod urls
 -- ---- What laws alone cite
 
--- that each 401 has a challenge
+-- that each 401 has a challenge, and each value of `Authorization` one meaning
 pub mod Laws

@@ -7,8 +7,10 @@ mod challenge;
 mod credentials;
 mod kind;
 pub mod laws;
+pub mod renewal;
 mod replies;
 mod scheme;
+pub mod urls;
 
 pub use challenge::{Challenge, Texts, is_quotable};
 pub use credentials::{Credentials, credentials_of};

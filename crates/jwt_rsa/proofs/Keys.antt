@@ -1,7 +1,7 @@
 -- What is asked of a key and a signature.
 use Rattle.std.proofs.Common.{◌≡◌, ℕ, suc, zero, ◌^◌, ◌%◌, ◌<◌, ◌↔◌, Bool, true, false, List, [], ◌∷◌, length, refl, sym, ap, ◌∙◌, ⊎_elim, arith}
 use Rattle.std.proofs.lemmas.Bool.{and_left, and_right, and_from, le-ltb, lt-ltb, ne_eqb, eq-eqb, cases_eq, cases_lt, iff_false, false_from_ne_true, false≢true}
-use Rattle.rsa_number.specs.Octets.{os2ip, without_zeros}
+use Rattle.jwt_rsa.specs.powers.Octets.{os2ip, without_zeros}
 use Rattle.jwt_rsa.specs.PublicKey.{is_key, rsavp1, is_asked}
 
 pub os2ip-without_zeros : (xs : List ℕ) → os2ip (without_zeros xs) ≡ os2ip xs

@@ -9,7 +9,7 @@ use Rattle.std.proofs.Math.Numerals.{add-one}
 use Rattle.std.proofs.lemmas.Bool.{cases_lt}
 use Rattle.std.proofs.lemmas.Nat.{div-add-mod', mod_below}
 use borrow.Rule.Slice.PartMut.{put_mid}
-use Rattle.rsa_number.specs.Octets.{i2osp}
+use Rattle.jwt_rsa.specs.powers.Octets.{i2osp}
 use Rattle.jwt_rsa.specs.declared.hash.Hash.{Hash}
 use Rattle.jwt_rsa.specs.Hashing.{digest_of, digest_size}
 use Rattle.jwt_rsa.specs.Pss.{mgf1, mgf1_blocks, xored}

@@ -1,7 +1,7 @@
 -- RSASSA-PKCS1-v1_5 (RFC 8017, sections 8.2.2 and 9.2).
 use Rattle.std.specs.Prelude.{ℕ, ◌+◌, ◌-◌, Bool, ◌&&◌, List, ◌∷◌, ◌++◌, length, replicate}
 use Rattle.std.specs.Str.{bytes_eq}
-use Rattle.rsa_number.specs.Octets.{os2ip, i2osp, without_zeros}
+use Rattle.jwt_rsa.specs.powers.Octets.{os2ip, i2osp, without_zeros}
 use Rattle.jwt_rsa.specs.PublicKey.{is_asked, rsavp1}
 use Rattle.jwt_rsa.specs.declared.hash.Hash.{Hash}
 use Rattle.jwt_rsa.specs.Hashing.{digest_of, digest_info}

@@ -2,8 +2,8 @@
 use Rattle.std.specs.Prelude.{ℕ, suc, zero, ◌+◌, ◌-◌, ◌*◌, ◌^◌, ◌%◌, ◌==◌, Bool, ◌&&◌, List, [], ◌∷◌, ◌++◌, length, take, drop, replicate, slice_index, bit_xor, nat_lt}
 use Rattle.std.specs.Int.{div_ceil}
 use Rattle.std.specs.Str.{bytes_eq}
-use Rattle.rsa_number.specs.Moduli.{bit_count}
-use Rattle.rsa_number.specs.Octets.{os2ip, i2osp, without_zeros}
+use Rattle.jwt_rsa.specs.powers.Moduli.{bit_count}
+use Rattle.jwt_rsa.specs.powers.Octets.{os2ip, i2osp, without_zeros}
 use Rattle.jwt_rsa.specs.declared.hash.Hash.{Hash}
 use Rattle.jwt_rsa.specs.Hashing.{digest_of, digest_size}
 use Rattle.jwt_rsa.specs.PublicKey.{is_asked, rsavp1}

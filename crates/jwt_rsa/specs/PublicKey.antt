@@ -1,7 +1,7 @@
 -- RSA public keys and RSAVP1 (RFC 8017, sections 3.1 and 5.2.2).
 use Rattle.std.specs.Prelude.{ℕ, ◌^◌, ◌%◌, ◌==◌, Bool, ◌&&◌, List, length, nat_lt, nat_le}
-use Rattle.rsa_number.specs.Moduli.{is_modulus}
-use Rattle.rsa_number.specs.Octets.{os2ip, without_zeros}
+use Rattle.jwt_rsa.specs.powers.Moduli.{is_modulus}
+use Rattle.jwt_rsa.specs.powers.Octets.{os2ip, without_zeros}
 
 -- the keys that are taken: n odd and of 2,048 to 8,192 bits, e odd, at least 3 (section 3.1), and of at most eight octets
 abbrev pub is_key : ℕ → ℕ → Bool

@@ -3,7 +3,7 @@
 //!
 //! ```rust
 //! use jwt_mac::{CountDown, Verifier};
-//! use jwt_rsa::Rsa;
+//! use crate::Rsa;
 //! use jwt_text::Reader;
 //! use jwt_verify::validate;
 //!
@@ -24,6 +24,7 @@ pub use verifying::verifies;
 mod digest;
 mod hash;
 mod pkcs1;
+pub mod powers;
 mod pss;
 mod public_key;
 pub mod verifier;

@@ -5,8 +5,8 @@ ghost use Rattle.jwt_mac.specs.Hmac.{all_octets};
 ghost use Rattle.jwt_rsa.specs.Pkcs1.{framed, encoded_message, pkcs1_accepts};
 
 use crate::hash::Hash;
+use crate::powers::MOST_OCTETS;
 use crate::public_key::{KeyOctets, PublicKey};
-use rsa_number::MOST_OCTETS;
 
 /// What stands before an end, if octets end so.
 pub fn before<'a>(octets: &'a [u8], end: &[u8]) -> Option<&'a [u8]>

@@ -4,12 +4,12 @@ ghost use Rattle.std.specs.Prelude.{◌≡◌, ℕ, ◌+◌, ◌-◌, ◌*◌, �
 ghost use Rattle.jwt_mac.specs.Hmac.{all_octets};
 ghost use Rattle.jwt_rsa.specs.Hashing.{digest_size};
 ghost use Rattle.jwt_rsa.specs.Pss.{mgf1, xored, without_top, pss_verified, pss_represents, pss_accepts};
-ghost use Rattle.rsa_number.specs.Octets.{i2osp};
+ghost use Rattle.jwt_rsa.specs.powers.Octets.{i2osp};
 
 use crate::hash::Hash;
 use crate::pkcs1::before;
+use crate::powers::{MOST_OCTETS, Modulus};
 use crate::public_key::{KeyOctets, PublicKey};
-use rsa_number::{MOST_OCTETS, Modulus};
 
 /// Xors octets with a digest's first.
 fn xor_with(octets: &mut [u8], mask: &[u8])

@@ -2,10 +2,10 @@
 
 ghost use Rattle.std.specs.Prelude.{◌≡◌, ◌^◌, ◌%◌, ◌<◌, ◌≤◌, ◌↔◌, length, IsTrue, SomeIff};
 ghost use Rattle.std.specs.Bool.{OnTrue};
-ghost use Rattle.rsa_number.specs.Octets.{os2ip, i2osp, without_zeros};
+ghost use Rattle.jwt_rsa.specs.powers.Octets.{os2ip, i2osp, without_zeros};
 ghost use Rattle.jwt_rsa.specs.PublicKey.{is_key, rsavp1};
 
-use rsa_number::{MOST_OCTETS, Modulus, PreparedModulus, number};
+use crate::powers::{MOST_OCTETS, Modulus, PreparedModulus, number};
 
 /// The octets of a key, and what was prepared of keys.
 #[derive(Clone, Copy)]

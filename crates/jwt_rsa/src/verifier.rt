@@ -5,10 +5,10 @@ ghost use Rattle.jwt_mac.specs.Verifying.{AnswersBy, key_octets, message_octets,
 ghost use Rattle.jwt_rsa.specs.Meanings.{names_rs, names_ps, accepts_rs, accepts_ps};
 ghost use Rattle.jwt_rsa.specs.Held.{prepared_number, room};
 
+use crate::powers::{Modulus, PreparedModulus};
 use crate::public_key::KeyOctets;
 use crate::verifying;
 use jwt_mac::{Alg, Answer, KeyView, Message, Verifier};
-use rsa_number::{Modulus, PreparedModulus};
 use std::alloc::Global;
 
 /// Whether it is RS256, RS384 or RS512.

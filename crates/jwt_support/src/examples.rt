@@ -49,8 +49,12 @@ const PAYLOAD_A: &str =
 
 const SIGNATURE_A: &str = "dBjftJeZ4CVP-mB92K27uhbUJU1p1r_wW1gFWFOEjXk";
 
+/// What `mac` prints of the token of RFC 7515, appendix A.1, and its key.
+pub const LINE_A: &str =
+    "mac 7418dfb49799e0254ffa607dd8adbbba16d4254d69d6bff05b58055853848d79 equal";
+
 /// What stands for each name in angle brackets.
-static NAMED: [(&str, &str); 10] = [
+static NAMED: [(&str, &str); 12] = [
     ("<HEADER_A>", HEADER_A),
     ("<PAYLOAD_A>", PAYLOAD_A),
     ("<SIGNATURE_A>", SIGNATURE_A),
@@ -61,10 +65,12 @@ static NAMED: [(&str, &str); 10] = [
     ("<RSA_N>", RSA_N),
     ("<RSA_THUMBPRINT>", RSA_THUMBPRINT),
     ("<ED25519_X>", ED25519_X),
+    ("<LINE_A>", LINE_A),
+    ("<LF>", "\n"),
 ];
 
-/// This text, with what stands for the names in angle brackets: `<KEY_A>` and the like, and the three parts of the token of RFC
-/// 7515, appendix A.1.
+/// This text, with what stands for the names in angle brackets: `<KEY_A>` and the like, the three parts of the token of RFC 7515,
+/// appendix A.1, and a line feed.
 pub fn filled(alloc: Global, text: &str) -> Result<String, AllocError> {
     let mut all = String::from_str(alloc, text)?;
     for (name, part) in &NAMED {

@@ -1,7 +1,7 @@
 //! Access rules.
 use crate::asserted::holds;
+use crate::read::claims_of;
 use jwt_access::{AccessFault, AccessRule, Moment};
-use jwt_policy::Claims;
 use std::alloc::Global;
 use std::test::Fail;
 
@@ -11,15 +11,6 @@ fn rule_of(alloc: Global, document: &str) -> Result<AccessRule, Fail> {
         AccessRule::read(alloc, document.as_bytes())
             .ok()
             .ok_or("no rule")?,
-    )
-}
-
-/// The claims of a payload that is read.
-fn claims_of(alloc: Global, payload: &str) -> Result<Claims, Fail> {
-    Ok(
-        Claims::read(alloc, payload.as_bytes())
-            .ok()
-            .ok_or("no claims")?,
     )
 }
 

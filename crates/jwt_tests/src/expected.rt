@@ -1,18 +1,10 @@
 //! What a call expects of claims.
-use jwt_expected::{Expected, Unmet, Wanted, first_unmet};
+use crate::read::claims_of;
+use jwt_access::expected::{Expected, Unmet, Wanted, first_unmet};
 use jwt_mac::Alg;
 use jwt_policy::Claims;
 use std::alloc::Global;
 use std::test::Fail;
-
-/// The claims of a payload that is read.
-fn claims_of(alloc: Global, payload: &str) -> Result<Claims, Fail> {
-    Ok(
-        Claims::read(alloc, payload.as_bytes())
-            .ok()
-            .ok_or("no claims")?,
-    )
-}
 
 /// What one expectation of a half hash comes to.
 fn hash_in(claims: &Claims, claim: &str, octets: &[u8], alg: Alg) -> Option<Unmet> {

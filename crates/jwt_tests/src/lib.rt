@@ -27,6 +27,8 @@ mod policy;
 #[cfg(test)]
 mod possession;
 #[cfg(test)]
+mod read;
+#[cfg(test)]
 mod renewal;
 #[cfg(test)]
 mod request;

@@ -1,5 +1,6 @@
 //! Tokens that come again.
 
+use crate::read::policy_of;
 use fowharimu::{Outcome, Remembering};
 use jwt_mac::Budget;
 use jwt_policy::{ClaimFault, Policy};
@@ -80,9 +81,7 @@ fn is_so(
 
 /// The number of the first step that goes another way.
 fn unmet(alloc: Global) -> Result<Option<usize>, Fail> {
-    let policy = Policy::read(alloc, HS256.as_bytes())
-        .ok()
-        .ok_or("no policy")?;
+    let policy = policy_of(alloc, HS256)?;
     let keys = key_set(alloc, r#"{"kty":"oct","k":"<KEY_A>"}"#)?;
     let tokens = NonZeroUsize::new(2).ok_or("no room")?;
     let mut remembering = Remembering::new(alloc, &policy, &keys, tokens, 8192)?;

@@ -1,5 +1,5 @@
-use jwt_once::{Entry, Lack, Once, Taken, Times, entry_of, owner_of};
-use jwt_policy::{Claims, Policy};
+use crate::read::{claims_of, policy_of};
+use jwt_possession::once::{Entry, Lack, Once, Taken, Times, entry_of, owner_of};
 use std::alloc::Global;
 use std::num::NonZeroUsize;
 use std::test::Fail;
@@ -107,66 +107,57 @@ fn a_refused_growth_takes_no_token(rt: HostRuntime) -> Result<(), Fail> {
     Ok(())
 }
 
-/// What the memory answers of a token with these claims, under a policy with a leeway of 60 seconds.
+/// A policy with a leeway of 60 seconds.
+const LENIENT: &str = r#"{"algs":["HS256"],"leeway":60}"#;
+
+/// What the memory answers of a token with these claims, under that policy.
 fn taken(
     alloc: Global,
     once: &mut Once,
     claims: &str,
     now: i64,
 ) -> Result<Result<Taken, Lack>, Fail> {
-    let Ok(policy) = Policy::read(alloc, b"{\"algs\":[\"HS256\"],\"leeway\":60}") else {
-        return Err(Fail::from("no policy"));
-    };
-    let Ok(claims) = Claims::read(alloc, claims.as_bytes()) else {
-        return Err(Fail::from("no claims"));
-    };
+    let policy = policy_of(alloc, LENIENT)?;
+    let claims = claims_of(alloc, claims)?;
     Ok(once.take_accepted(&policy, &claims, now))
+}
+
+const FIRST: &str = r#"{"iss":"i","jti":"a","exp":100}"#;
+
+const LONGER: &str = r#"{"iss":"i","jti":"a","exp":9223372036854775807}"#;
+
+/// Claims of tokens that come one after another, when, and what is answered.
+static STEPS: [(&str, i64, Result<Taken, Lack>); 11] = [
+    (FIRST, 99, Ok(Taken::New)),
+    (FIRST, 159, Ok(Taken::Seen)),
+    (r#"{"jti":"a","exp":100}"#, 159, Ok(Taken::New)),
+    (r#"{"iss":"","jti":"a","exp":100}"#, 159, Ok(Taken::Seen)),
+    (r#"{"sub":"s","exp":100}"#, 159, Err(Lack::NoId)),
+    (r#"{"sub":"s"}"#, 159, Err(Lack::NoId)),
+    (r#"{"jti":"b"}"#, 159, Err(Lack::NoEnd)),
+    (r#"{"jti":"b","exp":999,"iat":220}"#, 159, Err(Lack::Ahead)),
+    (LONGER, 161, Ok(Taken::Seen)),
+    (LONGER, i64::MAX, Ok(Taken::Seen)),
+    (FIRST, 100, Ok(Taken::Late)),
+];
+
+/// The number of the first step that goes another way. Before the ninth two tokens are held.
+fn unmet(alloc: Global, once: &mut Once) -> Result<Option<usize>, Fail> {
+    for (number, &(claims, now, wanted)) in STEPS.iter().enumerate() {
+        if number == 8 && once.len() != 2 {
+            return Ok(Some(number));
+        }
+        if taken(alloc, once, claims, now)? != wanted {
+            return Ok(Some(number));
+        }
+    }
+    Ok(None)
 }
 
 #[test]
 fn an_accepted_token_is_taken_until_its_end(rt: HostRuntime) -> Result<(), Fail> {
-    let alloc = rt.alloc();
-    let mut once = memory(alloc, 9)?;
-    let first = "{\"iss\":\"i\",\"jti\":\"a\",\"exp\":100}";
-    let nameless = "{\"jti\":\"a\",\"exp\":100}";
-    let longer = "{\"iss\":\"i\",\"jti\":\"a\",\"exp\":9223372036854775807}";
-    assert_eq!(rt; taken(alloc, &mut once, first, 99)?, Ok(Taken::New));
-    assert_eq!(rt; taken(alloc, &mut once, first, 159)?, Ok(Taken::Seen));
-    assert_eq!(rt; taken(alloc, &mut once, nameless, 159)?, Ok(Taken::New));
-    assert_eq!(rt;
-        taken(
-            alloc,
-            &mut once,
-            "{\"iss\":\"\",\"jti\":\"a\",\"exp\":100}",
-            159
-        )?,
-        Ok(Taken::Seen)
-    );
-    assert_eq!(rt;
-        taken(alloc, &mut once, "{\"sub\":\"s\",\"exp\":100}", 159)?,
-        Err(Lack::NoId)
-    );
-    assert_eq!(rt;
-        taken(alloc, &mut once, "{\"sub\":\"s\"}", 159)?,
-        Err(Lack::NoId)
-    );
-    assert_eq!(rt;
-        taken(alloc, &mut once, "{\"jti\":\"b\"}", 159)?,
-        Err(Lack::NoEnd)
-    );
-    assert_eq!(rt;
-        taken(
-            alloc,
-            &mut once,
-            "{\"jti\":\"b\",\"exp\":999,\"iat\":220}",
-            159
-        )?,
-        Err(Lack::Ahead)
-    );
-    assert_eq!(rt; once.len(), 2);
-    assert_eq!(rt; taken(alloc, &mut once, longer, 161)?, Ok(Taken::Seen));
-    assert_eq!(rt; taken(alloc, &mut once, longer, i64::MAX)?, Ok(Taken::Seen));
-    assert_eq!(rt; taken(alloc, &mut once, first, 100)?, Ok(Taken::Late));
+    let mut once = memory(rt.alloc(), 9)?;
+    assert_eq!(rt; unmet(rt.alloc(), &mut once)?, None);
     Ok(())
 }
 
@@ -185,14 +176,10 @@ fn moments_before_1970_are_one(rt: HostRuntime) -> Result<(), Fail> {
     Ok(())
 }
 
-/// How the token of these claims is held, under a policy with a leeway of 60 seconds.
+/// How the token of these claims is held, under that policy.
 fn entry(alloc: Global, claims: &str) -> Result<Result<Entry, Lack>, Fail> {
-    let Ok(policy) = Policy::read(alloc, b"{\"algs\":[\"HS256\"],\"leeway\":60}") else {
-        return Err(Fail::from("no policy"));
-    };
-    let Ok(claims) = Claims::read(alloc, claims.as_bytes()) else {
-        return Err(Fail::from("no claims"));
-    };
+    let policy = policy_of(alloc, LENIENT)?;
+    let claims = claims_of(alloc, claims)?;
     Ok(entry_of(&policy, &claims, 100))
 }
 
@@ -200,8 +187,7 @@ fn entry(alloc: Global, claims: &str) -> Result<Result<Entry, Lack>, Fail> {
 #[test]
 fn an_entry_is_that_of_the_memory(rt: HostRuntime) -> Result<(), Fail> {
     let alloc = rt.alloc();
-    let first = entry(alloc, "{\"iss\":\"i\",\"jti\":\"a\",\"exp\":100}")?;
-    let Ok(first) = first else {
+    let Ok(first) = entry(alloc, FIRST)? else {
         return Err(Fail::from("no entry"));
     };
     assert_eq!(rt; first.owner, None);

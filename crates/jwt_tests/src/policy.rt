@@ -1,5 +1,6 @@
 //! Policies, bars, eligible pairs and claims.
 use crate::asserted::holds;
+use crate::read::policy_of;
 use jwt_jws::parse;
 use jwt_keys::Key;
 use jwt_mac::Verifier;
@@ -21,15 +22,6 @@ use std::test::Fail;
 /// A policy that says something about everything.
 const FULL: &str =
     r#"{"version":2,"algs":["EdDSA","HS512"],"mode":"all","limit":1048576,"work":0,"max_signatures":32,"line_feed":true,"typ":"JWT","need_kid":true,"thumb_kid":true,"understood":["x"],"issuers":["ann","bob"],"audiences":["api"],"required":["sub"],"leeway":86400,"max_age":4294967295,"max_calls":32768}"#;
-
-/// The policy of a document that is read.
-fn policy_of(alloc: Global, document: &str) -> Result<Policy, Fail> {
-    Ok(
-        Policy::read(alloc, document.as_bytes())
-            .ok()
-            .ok_or("no policy")?,
-    )
-}
 
 // ---- documents
 

@@ -1,5 +1,5 @@
 //! Proofs of possession, and certificates.
-use jwt_policy::Claims;
+use crate::read::claims_of;
 use jwt_possession::laws::proofs_have_no_fault;
 use jwt_possession::{Binding, Nonces, ProofPolicy, certificate_holds, normal_uri};
 use std::alloc::Global;
@@ -8,14 +8,6 @@ use std::test::Fail;
 /// The policy for proofs.
 const POLICY: &str =
     r#"{"algs":["ES256","ES384","ES512","RS256","PS256","EdDSA"],"typ":"dpop+jwt","required":["jti","htm","htu","iat"],"max_age":60,"leeway":5}"#;
-
-/// The claims of this text.
-fn claims_of(alloc: Global, text: &str) -> Result<Claims, Fail> {
-    match Claims::read(alloc, text.as_bytes()) {
-        Ok(claims) => Ok(claims),
-        Err(_) => Err(Fail::from("no claims")),
-    }
-}
 
 /// Documents, and what is answered where they are no policy for proofs.
 static POLICIES: [(&str, &str); 8] = [
@@ -123,32 +115,15 @@ const SECRET: &[u8] =
 const LONG: &[u8] =
     b"01234567890123456789012345678901234567890123456789012345678901234567890123456789";
 
+/// The nonce of the first period of 300 seconds.
+const FIRST: &[u8] = b"nwzZuUCX_kkpkY0riUKzRDlXQmGjXcUBY_BsZ9TkiJk";
+
 /// Secrets, periods, moments and nonces, which are from Python's hmac.
 static NONCES: [(&[u8], u32, i64, &[u8]); 9] = [
-    (
-        SECRET,
-        300,
-        0,
-        b"nwzZuUCX_kkpkY0riUKzRDlXQmGjXcUBY_BsZ9TkiJk",
-    ),
-    (
-        SECRET,
-        300,
-        299,
-        b"nwzZuUCX_kkpkY0riUKzRDlXQmGjXcUBY_BsZ9TkiJk",
-    ),
-    (
-        SECRET,
-        300,
-        -1,
-        b"nwzZuUCX_kkpkY0riUKzRDlXQmGjXcUBY_BsZ9TkiJk",
-    ),
-    (
-        SECRET,
-        300,
-        i64::MIN,
-        b"nwzZuUCX_kkpkY0riUKzRDlXQmGjXcUBY_BsZ9TkiJk",
-    ),
+    (SECRET, 300, 0, FIRST),
+    (SECRET, 300, 299, FIRST),
+    (SECRET, 300, -1, FIRST),
+    (SECRET, 300, i64::MIN, FIRST),
     (
         SECRET,
         300,

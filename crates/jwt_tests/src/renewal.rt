@@ -1,5 +1,5 @@
 use crate::asserted::holds;
-use jwt_renewal::{Answer, Asker, Fetch, Renewal, Times};
+use jwt_request::renewal::{Answer, Asker, Fetch, Renewal, Times};
 
 const TIMES: Times = Times {
     refresh_after: 600,

@@ -1,5 +1,5 @@
 use crate::asserted::holds;
-use jwt_urls::{Asked, Metadata, Next, Unwritten, Url, next_of, redirected, url_of};
+use jwt_request::urls::{Asked, Metadata, Next, Unwritten, Url, next_of, redirected, url_of};
 use std::alloc::Global;
 use std::process::Abort;
 use std::test::Fail;

@@ -1,5 +1,6 @@
 //! `judge` and `validate`.
 use crate::asserted::holds;
+use crate::read::policy_of;
 use jwt_keys::KeySet;
 use jwt_mac::{Alg, Answer, CountDown, KeyView, Message, Verifier};
 use jwt_policy::Policy;
@@ -180,9 +181,7 @@ fn is_refusal(said: Option<&str>) -> bool {
 /// How many pairs are tried on the token where it is read first, and accepted then.
 fn tries_of_read_token(alloc: Global) -> Result<Option<usize>, Fail> {
     let keys = key_set(alloc, r#"{"kty":"oct","k":"<KEY_A>"}"#)?;
-    let policy = Policy::read(alloc, HS256.as_bytes())
-        .ok()
-        .ok_or("no policy")?;
+    let policy = policy_of(alloc, HS256)?;
     let signed = read_token(alloc, TOKEN_A.as_bytes(), &policy)
         .ok()
         .ok_or("no token")?;
@@ -249,9 +248,7 @@ fn unrefused_at(alloc: Global, keys: &KeySet, policy: &Policy, place: usize) -> 
 /// The first octet whose change leaves the token accepted, or costs more than one try, where there is one.
 fn unrefused(alloc: Global) -> Result<Option<usize>, Fail> {
     let keys = key_set(alloc, r#"{"kty":"oct","k":"<KEY_A>"}"#)?;
-    let policy = Policy::read(alloc, HS256.as_bytes())
-        .ok()
-        .ok_or("no policy")?;
+    let policy = policy_of(alloc, HS256)?;
     for place in 0..TOKEN_A.len() {
         if unrefused_at(alloc, &keys, &policy, place).is_some() {
             return Ok(Some(place));

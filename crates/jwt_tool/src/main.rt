@@ -1,20 +1,20 @@
 //! The program `jwt`: JSON Web Tokens on the command line.
 #![tactic(auto)]
 
-ghost use Rattle.std.specs.Prelude.{◌≤◌};
+ghost use Rattle.std.specs.Prelude.{◌≤◌, IfOk};
+ghost use Rattle.jwt_words.specs.Seen.{command_view};
+ghost use Rattle.jwt_words.specs.Words.{HasRange};
 
-mod answered;
 mod files;
 mod moments;
 mod saying;
 mod words;
 
-use crate::answered::Answered;
 use crate::files::{input_of, octets, read_files, token_octets};
 use crate::moments::{System, moment};
 use crate::saying::{
-    issues, moment_of, reads_der, say_hint, say_how_to_go_on, say_what_is_waited_for,
-    say_which_line, say_why_not_issued, say_why_refused, say_wrong,
+    issues, moment_of, reads_der, say_hint, say_how_to_go_on, say_sentences,
+    say_what_is_waited_for, say_which_line, say_why_refused, say_wrong,
 };
 use crate::words::{Spelled, as_meant};
 use jwt_built_in::{BuiltIn, PREPARED_KEYS};
@@ -35,7 +35,7 @@ use std::{env, io};
 /// out before the next line is waited for.
 fn main(rt: HostRuntime) -> ExitCode {
     let clock = moment(&rt);
-    let mut w = Answered::new(rt.alloc(), Writer::new(rt.stdout()));
+    let mut w = Writer::new(rt.stdout());
     match run(&rt, clock, &mut w) {
         Ok(status) => ExitCode::from(status),
         Err(error) if error.kind() == io::ErrorKind::OutOfMemory => ExitCode::from(lack_memory(
@@ -48,31 +48,24 @@ fn main(rt: HostRuntime) -> ExitCode {
     }
 }
 
-/// Whether the words are wrong: then nothing is read, nor is a file opened that one of them may name.
-fn are_wrong(asked: &Result<Command<'_>, WordsFault>) -> bool {
-    match asked {
-        Err(WordsFault::Wrong(_)) => true,
-        _ => false,
-    }
-}
-
-/// Runs the command that the program's words ask for, on standard input, or on the file that stands in its place.
-fn run<W: Sink>(rt: &HostRuntime, clock: Option<Moment>, w: &mut Answered<W>) -> io::Result<u8> {
+/// Runs the command that the program's words ask for, on standard input, or on the file that stands in its place. For wrong words nothing is read,
+/// nor is a file opened that one of them may name.
+fn run<W: Sink>(rt: &HostRuntime, clock: Option<Moment>, w: &mut W) -> io::Result<u8> {
     let args: Vec<String> = env::args(rt)?.collect(rt.alloc())?;
     let Spelled { words, input } = as_meant(rt.alloc(), args.as_slice())?;
     let words: Vec<&str> = words.iter().map(|word| word.as_str()).collect(rt.alloc())?;
-    let words = words.as_slice();
-    let name = match input {
-        Some(name) if name.as_str() != "-" => name,
-        _ => return run_words(rt, clock, words, &mut Reader::new(rt.stdin()), w),
-    };
-    let asked = read_words(rt.alloc(), words, clock);
-    if are_wrong(&asked) {
-        return run_words(rt, clock, words, &mut Reader::new(rt.stdin()), w);
+    let asked = read_words(rt.alloc(), words.as_slice(), clock);
+    if asked.is_err() {
+        say_wrong(rt, &asked);
+        say_hint(rt, words.as_slice());
     }
+    let name = match input {
+        Some(name) if asked.is_ok() && name.as_str() != "-" => name,
+        _ => return run_words(rt, asked, &mut Reader::new(rt.stdin()), w),
+    };
     let printing = reads_of(&asked).printing;
     match input_of(rt, printing, name.as_str())? {
-        Some(file) => run_words(rt, clock, words, &mut Reader::new(file), w),
+        Some(file) => run_words(rt, asked, &mut Reader::new(file), w),
         None => Ok(give(w, printed_file_fault(rt.alloc(), printing, name.as_str()))),
     }
 }
@@ -120,16 +113,12 @@ fn verifier_for(
 /// Reads the files that the words name, and runs the command with what they hold.
 fn run_words<R: Source, W: Sink>(
     rt: &HostRuntime,
-    clock: Option<Moment>,
-    words: &[&str],
+    asked: Result<Command<'_>, WordsFault>,
     r: &mut R,
-    w: &mut Answered<W>,
-) -> io::Result<u8> {
-    let asked = read_words(rt.alloc(), words, clock);
-    if asked.is_err() {
-        say_wrong(rt, &asked);
-        say_hint(rt, words);
-    }
+    w: &mut W,
+) -> io::Result<u8>
+    requires { IfOk asked (λ command. HasRange (command_view command)) }
+{
     say_what_is_waited_for(rt, &asked);
     let reads = reads_of(&asked);
     let files = read_files(rt, &reads)?;
@@ -153,17 +142,14 @@ fn run_words<R: Source, W: Sink>(
     let now = moment_of(&asked);
     let der = reads_der(&asked);
     let ran = run_read(rt.alloc(), asked, &at_hand, &mut moments, r, w);
-    let answer = w.begin.as_slice();
     match (ran.status, &ran.subject) {
         (1, Some(subject)) => {
-            say_why_refused(rt, reads.printing, subject, now, answer);
-            say_which_line(rt, held, answer);
+            say_why_refused(rt, reads.printing, subject, now, ran.cause);
+            say_which_line(rt, reads.printing, held, subject);
         }
-        (1, None) if issues => say_why_not_issued(rt, reads.printing, answer),
+        (1, None) if issues => say_sentences(rt, reads.printing, None, None, ran.cause),
+        (1, None) if der => say_how_to_go_on(rt, ran.cause),
         _ => {}
-    }
-    if der {
-        say_how_to_go_on(rt, ran.status, answer);
     }
     Ok(ran.status)
 }

@@ -4,14 +4,14 @@ use jwt_command::subject::Subject;
 use jwt_command::{Command, WordsFault};
 use jwt_jws::FormFault;
 use jwt_output::reasons::{
-    Reason, access_reason, around_token, claims_detail, keys_reason, policy_reason, token_reason,
-    token_sentences,
+    Cause, Reason, access_reason, around_token, claims_detail, keys_reason, policy_reason,
+    token_reason, token_sentences,
 };
 use jwt_output::terminal::push_quoted;
+use jwt_policy::PolicyFault;
 use jwt_settings::{Moment, Printing};
 use std::alloc::AllocError;
 use std::io::IsTerminal;
-use std::str;
 
 /// A document by its name in JSON, and in words.
 type Document = (&'static str, &'static str);
@@ -45,20 +45,20 @@ fn say_reason(
     }
 }
 
-/// Says what became of the token, and what to do, by the answer; of a token that is read also by what stands around it, or by what its claims
-/// have to do with the fault.
-fn say_sentences(
+/// Says what became of the token, and what to do; of a token that is read also by what stands around it, or by what its claims have to do with
+/// the fault. Without a token it says what it means that none is issued.
+pub fn say_sentences(
     rt: &HostRuntime,
     printing: Printing,
     token: Option<&[u8]>,
     detail: Option<&str>,
-    answer: &[u8],
+    cause: Cause,
 ) {
     let around = match (token, detail) {
         (Some(token), None) => around_token(token),
         _ => None,
     };
-    let Some(sentences) = token_sentences(answer) else {
+    let Some(sentences) = token_sentences(cause) else {
         return;
     };
     let words = around.unwrap_or(sentences);
@@ -74,10 +74,9 @@ fn say_sentences(
             }
         }
         Printing::Lines => {
-            let verdict = if answer.starts_with(b"denied ") {
-                "denied"
-            } else {
-                "refused"
+            let verdict = match cause {
+                Cause::Denied(_) => "denied",
+                _ => "refused",
             };
             let _ = eprintln!(rt; "jwt: the token is {verdict}: {words}{detail}");
         }
@@ -91,29 +90,29 @@ fn say_of_token(
     fault: Option<FormFault>,
     token: &[u8],
     now: Option<Moment>,
-    answer: &[u8],
+    cause: Cause,
 ) {
     if let Ok(Some(reason)) = token_reason(rt.alloc(), fault, token) {
         return say_reason(rt, printing, TOKEN, Ok(reason));
     }
     let detail = match now {
-        Some(now) => claims_detail(rt.alloc(), answer, token, now).unwrap_or(None),
+        Some(now) => claims_detail(rt.alloc(), cause, token, now).unwrap_or(None),
         None => None,
     };
     let detail = match &detail {
         Some(text) => Some(text.as_str()),
         None => None,
     };
-    say_sentences(rt, printing, Some(token), detail, answer)
+    say_sentences(rt, printing, Some(token), detail, cause)
 }
 
-/// Says why a document is refused, or the token denied, at the moment of a verdict, with the beginning of the answer.
+/// Says why a document is refused, or the token denied, at the moment of a verdict, by what the answer refuses or denies it for.
 pub fn say_why_refused(
     rt: &HostRuntime,
     printing: Printing,
     subject: &Subject<'_>,
     now: Option<Moment>,
-    answer: &[u8],
+    cause: Cause,
 ) {
     let alloc = rt.alloc();
     match subject {
@@ -130,18 +129,21 @@ pub fn say_why_refused(
             say_reason(rt, printing, ACCESS, reason);
         }
         Subject::Token(fault, token) => {
-            say_of_token(rt, printing, *fault, token.octets(), now, answer)
+            say_of_token(rt, printing, *fault, token.octets(), now, cause)
         }
     }
 }
 
-/// Says which line the policy was, where no file of it is named and another document is in one.
-pub fn say_which_line(rt: &HostRuntime, held: Held<'_>, answer: &[u8]) {
+/// Says in words which line the policy was, where no file of it is named and another document is in one.
+pub fn say_which_line(rt: &HostRuntime, printing: Printing, held: Held<'_>, subject: &Subject<'_>) {
     let line_is_policy = held.policy.is_none() && (held.keys.is_some() || held.token.is_some());
-    if line_is_policy && answer.starts_with(b"refused Policy Json") {
-        let _ = eprintln!(rt;
-            "jwt: the policy was the first line of standard input, since no --policy FILE names it"
-        );
+    match (printing, subject) {
+        (Printing::Lines, Subject::Policy(PolicyFault::Json, _)) if line_is_policy => {
+            let _ = eprintln!(rt;
+                "jwt: the policy was the first line of standard input, since no --policy FILE names it"
+            );
+        }
+        _ => {}
     }
 }
 
@@ -161,11 +163,6 @@ pub fn issues(asked: &Result<Command<'_>, WordsFault>) -> bool {
     }
 }
 
-/// Says what it means that no token is issued, by the beginning of the answer.
-pub fn say_why_not_issued(rt: &HostRuntime, printing: Printing, answer: &[u8]) {
-    say_sentences(rt, printing, None, None, answer);
-}
-
 /// Whether the words ask for the JWK of a key in DER.
 pub fn reads_der(asked: &Result<Command<'_>, WordsFault>) -> bool {
     match asked {
@@ -175,12 +172,8 @@ pub fn reads_der(asked: &Result<Command<'_>, WordsFault>) -> bool {
 }
 
 /// Says of a key in DER that is refused with a remedy how what that prints is read.
-pub fn say_how_to_go_on(rt: &HostRuntime, status: u8, answer: &[u8]) {
-    let is_remedied = match str::from_utf8(answer) {
-        Ok(answer) => answer.contains("remedy"),
-        Err(_) => false,
-    };
-    if status == 1 && is_remedied {
+pub fn say_how_to_go_on(rt: &HostRuntime, cause: Cause) {
+    if let Cause::Remedied = cause {
         let _ = eprintln!(rt; "jwt: what the remedy prints is PEM, which is read without --der");
     }
 }

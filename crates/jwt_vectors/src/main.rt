@@ -7,15 +7,15 @@
 //! taken, of one on an elliptic curve; whether the key set has it. Where the algorithm is "digest", the message's digest stands in its place, and only the first two are asked.
 #![tactic(auto)]
 
+use ecdsa::jws::{
+    Ecdsa, verifies_es256, verifies_es256_by, verifies_es384, verifies_es384_by, verifies_es512,
+    verifies_es512_by,
+};
 use ecdsa::{
     PreparedKeys, is_p256_key, is_p384_key, is_p521_key, prepare_p256, prepare_p384, prepare_p521,
     verifies_p256, verifies_p256_by, verifies_p384, verifies_p384_by,
 };
 use jwt_built_in::BuiltIn;
-use jwt_ecdsa::{
-    Ecdsa, verifies_es256, verifies_es256_by, verifies_es384, verifies_es384_by, verifies_es512,
-    verifies_es512_by,
-};
 use jwt_ed25519::{Ed25519, is_key, prepare, verifies, verifies_by};
 use jwt_keys::KeySet;
 use jwt_mac::{Alg, Answer, EcCurve, EdCurve, KeyView, Message, Verifier};
@@ -186,7 +186,7 @@ fn by_prepared(alloc: Global, alg: Alg, key: &KeyView, message: Message, signatu
             of_answer(verifier.verify(alg, key, message, signature))
         }
         KeyView::Ec { .. } => {
-            let mut verifier = jwt_ecdsa::PreparedEcdsa::new(alloc, 1);
+            let mut verifier = ecdsa::jws::PreparedEcdsa::new(alloc, 1);
             verifier.prepare(alloc, key);
             of_answer(verifier.verify(alg, key, message, signature))
         }

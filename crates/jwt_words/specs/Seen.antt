@@ -1,5 +1,5 @@
 -- The crate's own types as contracts see them.
-use Rattle.std.specs.Prelude.{ℕ, Option, option_map}
+use Rattle.std.specs.Prelude.{option_map}
 use Rattle.jwt_settings.specs.Seen.{expectation_view, seconds_of}
 use Rattle.jwt_words.specs.Words.{Command, Files, Issue, Jwk, JwkOrder, Keys, KidChoice, KidNamed, KidThumbprint, LinesOrder, Mac, MacFile, NewSecret, NoKid, Policy, PolicyOrder, Pretty, PrettyOrder, SecretOrder, Show, Verify, VerifyLines, Version}
 use Rattle.jwt_words.specs.declared.jwk.JwkOrder.{JwkOrder as CodeJwk}

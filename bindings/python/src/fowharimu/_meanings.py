@@ -1,4 +1,4 @@
-"""What each fault means, by what it is of. Drawn from docs/FAULTS.md by gate/faults.py."""
+"""What each fault means, by what it is of. Drawn from gate/faults.txt by gate/faults.py."""
 
 POLICY = {
     "Json": "no JSON text in UTF-8, or no object",

@@ -6,7 +6,7 @@ use Rattle.ecdsa.specs.Curves as curves
 use Rattle.ecdsa.specs.Ecdsa.{is_public_key}
 use Rattle.jwt_rsa.specs.PublicKey.{is_key}
 use Rattle.jwt_ed25519.specs.Verifying.{is_key as is_key_of_ed25519}
-use Rattle.rsa_number.specs.Octets.{os2ip}
+use Rattle.jwt_rsa.specs.powers.Octets.{os2ip}
 use Rattle.jwt_mac.specs.Verifying.{KeyOctets, OctKey, RsaKey, EcKey, OkpKey}
 use Rattle.jwt_mac.specs.declared.key_view.EcCurve.{EcCurve}
 use Rattle.jwt_mac.specs.declared.key_view.EcCurve.TheVariants.{P256, P384, P521}

@@ -5,13 +5,13 @@ ghost use Rattle.jwt_mac.specs.Verifying.{OkpKey, key_octets};
 ghost use Rattle.jwt_rsa.specs.PublicKey.{is_key};
 ghost use Rattle.jwt_jwk.specs.der.Der.{is_fit, is_on_curve};
 ghost use Rattle.jwt_jwk.specs.der.Reading.{AgreesWith, fitting, why_unfit};
-ghost use Rattle.rsa_number.specs.Octets.{os2ip};
+ghost use Rattle.jwt_rsa.specs.powers.Octets.{os2ip};
 
 use crate::der::refusal::Refusal;
 use ecdsa::{is_p256_key, is_p384_key, is_p521_key};
 use jwt_ed25519::is_key;
 use jwt_mac::{EcCurve, EdCurve, KeyView};
-use rsa_number::{Modulus, number};
+use jwt_rsa::powers::{Modulus, number};
 
 /// Whether an RSA key has the sizes that the verifiers take.
 fn is_rsa_fit(n: &[u8], e: &[u8]) -> bool

@@ -19,9 +19,14 @@ use Rattle.jwt_output.specs.declared.fields.field.FieldValue.{FieldValue}
 use Rattle.jwt_output.specs.declared.fields.field.FieldValue.TheVariants as code
 
 pub data Value : Type 0 where
-  -- a word of the program's own, and a text of somebody else's
+  -- a word of the program's own
   Word : List ℕ → Value
+  -- a word in a line, and what JSON has in its place
+  Words : (line json : List ℕ) → Value
+  -- a text of somebody else's
   Text : List ℕ → Value
+  -- a text that no line has
+  Hint : List ℕ → Value
   Count : ℕ → Value
   -- the JSON value that octets are
   Octets : List ℕ → Value
@@ -44,11 +49,16 @@ count name n = field name (Count n)
 -- what stands before a value in a line, and its name in JSON
 abbrev pub names : FieldName → List ℕ × List ℕ
 names name.Verdict = (codes "", codes "verdict")
+names name.Document = (codes " ", codes "document")
 names name.Fault = (codes " ", codes "fault")
 names name.Denial = (codes " ", codes "denial")
 names name.Part = (codes " part=", codes "part")
+names name.Member = (codes " member=", codes "member")
+names name.Nearest = (codes "", codes "nearest")
 names name.Scope = (codes " scope=", codes "scope")
 names name.Claim = (codes " claim=", codes "claim")
+names name.File = (codes " file=", codes "file")
+names name.Remedy = (codes " remedy=", codes "remedy")
 names name.Signature = (codes " sig=", codes "signature")
 names name.Key = (codes " key=", codes "key")
 names name.Claims = (codes "", codes "claims")
@@ -61,6 +71,7 @@ names name.Work = (codes " work=", codes "work")
 -- a text of somebody else's is quoted; of tries, their number
 abbrev pub in_line : Value → Option (List ℕ)
 in_line (Word w) = Some w
+in_line (Words w j) = Some w
 in_line (Text t) = Some (quoted_text t)
 in_line (Count n) = Some (decimal n)
 in_line (Tries es) = Some (decimal (length es))
@@ -69,14 +80,16 @@ in_line value = None
 abbrev pub line_part : Field → List ℕ
 line_part f = option_map_or (λ v. (names f.name).0 ++ v) (in_line f.value) []
 
-abbrev pub fields_line : List Field → ℕ → Answer
-fields_line fields status = record { text = flat_map line_part fields ++ 10 ∷ []; status = status }
+abbrev pub fields_line : List Field → List ℕ
+fields_line fields = flat_map line_part fields ++ 10 ∷ []
 
 -- ---- in JSON
 
 abbrev pub in_json : Value → Json
 in_json (Word w) = string w
+in_json (Words w j) = string j
 in_json (Text t) = string t
+in_json (Hint t) = string t
 in_json (Count n) = number (decimal n)
 in_json (Octets t) = json_value t
 in_json (States sts) = array (items_in (map state_json sts))
@@ -85,24 +98,31 @@ in_json (Tries es) = array (items_in (map try_json es))
 abbrev pub json_member : Field → Named
 json_member f = ((names f.name).1, in_json f.value)
 
-abbrev pub fields_json : List Field → ℕ → Answer
-fields_json fields status = json_line (map json_member fields) status
+abbrev pub fields_json : List Field → List ℕ
+fields_json fields = json_line (map json_member fields)
 
 -- ---- either
 
+abbrev pub fields_text : Printing → List Field → List ℕ
+fields_text printing.Json fields = fields_json fields
+fields_text printing.Lines fields = fields_line fields
+
 abbrev pub printed : Printing → List Field → ℕ → Answer
-printed printing.Json fields status = fields_json fields status
-printed printing.Lines fields status = fields_line fields status
+printed printing fields status = record { text = fields_text printing fields; status = status }
 
 -- ---- the code's own values as contracts see them
 
 abbrev pub value_view : FieldValue → Value
 value_view (code.Word w) = Word w.now
+value_view (code.Words w j) = Words w.now j.now
 value_view (code.Text t) = Text t.now
+value_view (code.Hint t) = Hint t.now
 value_view (code.Count n) = Count n
 value_view (code.Json t) = Octets t.now
 value_view (code.States sts) = States sts.now
 value_view (code.Tries es) = Tries es.now
+
+-- ---- Cited by contracts of private functions alone
 
 abbrev pub field_view : CodeField → Field
 field_view f = record { name = f.name; value = value_view f.value }

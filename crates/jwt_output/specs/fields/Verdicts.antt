@@ -73,15 +73,16 @@ accepted_fields None i j payload = word name.Verdict (codes "accepted") ∷ coun
 accepted_fields (Some denial) i j payload =
     word name.Verdict (codes "denied") ∷ word name.Denial (denial_name denial) ∷ field (lacked_name denial) (Text (denied denial)) ∷ pair_fields i j
 
+-- a verdict, and the name of a fault
+abbrev pub fault_fields : (verdict fault : List ℕ) → List Field
+fault_fields verdict fault = word name.Verdict verdict ∷ word name.Fault fault ∷ []
+
 abbrev pub refused_fields : Fault → List Field
-refused_fields f = word name.Verdict (codes "refused") ∷ word name.Fault (fault_name f) ∷ place_fields f
+refused_fields f = fault_fields (codes "refused") (fault_name f) ++ place_fields f
 
 -- what became of each signature, each try that was paid, and the octets that they cost
 abbrev pub evidence : List SigState → List Try → ℕ → List Field
 evidence sts es octets = field name.Signatures (States sts) ∷ field name.Tries (Tries es) ∷ count name.Work octets ∷ []
-
-abbrev pub read_failed_fields : List Field
-read_failed_fields = word name.Verdict (codes "failed") ∷ word name.Fault (codes "Read") ∷ []
 
 abbrev pub status_of : Option Denial → ℕ
 status_of None = 0
@@ -92,7 +93,7 @@ status_of (Some denial) = 1
 abbrev pub refusal : Printing → Fault → List Field → Answer
 refusal printing fault.OutOfMemory ran = out_of_memory
 refusal printing fault.VerifierMemory ran = out_of_memory
-refusal printing (fault.Text Read) ran = printed printing read_failed_fields 3
+refusal printing (fault.Text Read) ran = printed printing (fault_fields (codes "failed") (codes "Read")) 3
 refusal printing f ran = printed printing (refused_fields f ++ ran) 1
 
 abbrev pub acceptance : Printing → Option Denial → (i j : ℕ) → List ℕ → List Field → Answer

@@ -1,7 +1,6 @@
 -- The output of `jwt policy`: each member of a policy, the uses of its keys, and the advice.
 use Rattle.std.specs.Prelude.{ℕ, List, [], ◌∷◌}
 use Rattle.jwt_advice.specs.declared.notes.Note.{Note}
-use Rattle.jwt_output.specs.declared.verdicts.members.Member.TheVariants as member
 
 -- ---- the answers
 

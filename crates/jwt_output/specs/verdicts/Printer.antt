@@ -5,13 +5,11 @@ use Rattle.jwt_policy.specs.declared.policy_fault.PolicyFault.{PolicyFault}
 use Rattle.jwt_access.specs.Rules.{Rule}
 use Rattle.jwt_access.specs.declared.access_fault.AccessFault.{AccessFault}
 use Rattle.jwt_verify.specs.Verdict.{Terms}
-use Rattle.jwt_output.specs.verdicts.Denied.{Demands}
 use Rattle.jwt_output.specs.Printed.{Answer}
 use Rattle.jwt_output.specs.Refused.{printed_access_fault, printed_keys_fault, printed_policy_fault, printed_read_fault}
-use Rattle.jwt_output.specs.verdicts.Verdicts.{token_answer, token_json}
+use Rattle.jwt_output.specs.verdicts.Verdicts.{token_answer}
 use Rattle.jwt_settings.specs.Seen.{Expectation}
 use Rattle.jwt_settings.specs.declared.printing.Printing.{Printing}
-use Rattle.jwt_settings.specs.declared.printing.Printing.TheVariants.{Json, Lines}
 
 -- how the answers of `verify` are printed: of a token, under an access rule where there is one, of a document that is refused, and of a
 -- read that failed
@@ -22,13 +20,9 @@ pub record Printer : Type 0 where
   pub access_refused : AccessFault → Answer
   pub read_failed : Answer
 
-abbrev pub printed_verdict : Printing → Demands → Terms → List ℕ → Answer
-printed_verdict Json demands q x = token_json demands q x
-printed_verdict Lines demands q x = token_answer demands q x
-
 -- with what a claim has to be, where that is asked
 abbrev pub printer_for : Printing → Option Expectation → Printer
-printer_for printing expected = record { token = λ rule. printed_verdict printing (record { rule = rule; expected = expected }); keys_refused = printed_keys_fault printing; policy_refused = printed_policy_fault printing; access_refused = printed_access_fault printing; read_failed = printed_read_fault printing }
+printer_for printing expected = record { token = λ rule. token_answer printing (record { rule = rule; expected = expected }); keys_refused = printed_keys_fault printing; policy_refused = printed_policy_fault printing; access_refused = printed_access_fault printing; read_failed = printed_read_fault printing }
 
 abbrev pub printer : Printing → Printer
 printer printing = printer_for printing None

@@ -8,11 +8,16 @@ use jwt_verify::{SigState, Try};
 #[derive(Clone, Copy)]
 pub enum FieldName {
     Verdict,
+    Document,
     Fault,
     Denial,
     Part,
+    Member,
+    Nearest,
     Scope,
     Claim,
+    File,
+    Remedy,
     Signature,
     Key,
     Claims,
@@ -28,11 +33,16 @@ impl FieldName {
     {
         match self {
             FieldName::Verdict => ("", "verdict"),
+            FieldName::Document => (" ", "document"),
             FieldName::Fault => (" ", "fault"),
             FieldName::Denial => (" ", "denial"),
             FieldName::Part => (" part=", "part"),
+            FieldName::Member => (" member=", "member"),
+            FieldName::Nearest => ("", "nearest"),
             FieldName::Scope => (" scope=", "scope"),
             FieldName::Claim => (" claim=", "claim"),
+            FieldName::File => (" file=", "file"),
+            FieldName::Remedy => (" remedy=", "remedy"),
             FieldName::Signature => (" sig=", "signature"),
             FieldName::Key => (" key=", "key"),
             FieldName::Claims => ("", "claims"),
@@ -47,9 +57,13 @@ impl FieldName {
 #[derive(Clone, Copy)]
 pub enum FieldValue<'a> {
     /// A word of this program's.
-    Word(&'a str),
+    Word(&'static str),
+    /// A word of this program's in a line, and what JSON has in its place.
+    Words(&'static str, &'static str),
     /// A text of somebody else's.
     Text(&'a str),
+    /// A text that no line has.
+    Hint(&'a str),
     /// A whole number.
     Count(u64),
     /// The JSON value that octets are, which no line has.

@@ -1,10 +1,9 @@
 //! The line of a list of fields.
 ghost use Rattle.std.specs.Prelude.{◌≡◌, ◌++◌, IfOk, map, option_map};
 ghost use Rattle.jwt_output.specs.fields.Fields.{field_view, fields_line, in_line, line_part, value_view};
-ghost use Rattle.jwt_output.specs.Views.{reply_view};
 
 use crate::fields::field::{Field, FieldValue};
-use crate::{Reply, put_labelled};
+use crate::put_labelled;
 use jwt_text::quoted;
 use std::alloc::{AllocError, Global};
 
@@ -13,7 +12,9 @@ fn in_line(alloc: Global, value: FieldValue<'_>) -> Result<Option<Vec<u8>>, Allo
     ensures { IfOk result (λ v. option_map (λ t. t.items) v ≡ in_line (value_view value.entry)) }
 {
     match value {
-        FieldValue::Word(word) => Ok(Some(word.as_bytes().to_vec(alloc)?)),
+        FieldValue::Word(word) | FieldValue::Words(word, _) => Ok(Some(
+            word.as_bytes().to_vec(alloc)?,
+        )),
         FieldValue::Text(text) => match quoted(alloc, text) {
             Ok(text) => Ok(Some(text)),
             Err(_) => Err(AllocError),
@@ -23,7 +24,7 @@ fn in_line(alloc: Global, value: FieldValue<'_>) -> Result<Option<Vec<u8>>, Allo
             let count = tries.len();
             Ok(Some(format!(in alloc; "{count}")?.into_bytes()))
         }
-        FieldValue::Json(_) | FieldValue::States(_) => Ok(None),
+        FieldValue::Hint(_) | FieldValue::Json(_) | FieldValue::States(_) => Ok(None),
     }
 }
 
@@ -39,13 +40,13 @@ fn put_part(alloc: Global, out: &mut Vec<u8>, field: &Field<'_>) -> Result<(), A
 
 /// The line of a list of fields.
 #[tactic(auto, using(std::proofs::lemmas::List::at_drop_more, std::proofs::lemmas::List::at_drop_all))]
-pub fn fields_line(alloc: Global, fields: &[Field<'_>], status: u8) -> Result<Reply, AllocError>
-    ensures { IfOk result (λ a. reply_view a ≡ fields_line (map field_view fields.now) status) }
+pub(crate) fn fields_line(alloc: Global, fields: &[Field<'_>]) -> Result<Vec<u8>, AllocError>
+    ensures { IfOk result (λ v. v.items ≡ fields_line (map field_view fields.now)) }
 {
     let mut text = Vec::new(alloc);
     for field in fields {
         put_part(alloc, &mut text, field)?;
     }
     text.push(b'\n')?;
-    Ok(Reply { text, status })
+    Ok(text)
 }

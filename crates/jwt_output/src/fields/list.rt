@@ -3,10 +3,11 @@ ghost use Rattle.std.specs.Prelude.{◌≡◌, ◌++◌, ◌∷◌, [], IfOk, On
 ghost use Rattle.jwt_output.specs.fields.Fields.{count, field, printed, value_view, word};
 ghost use Rattle.jwt_output.specs.Views.{reply_view};
 
-use crate::Reply;
 use crate::fields::field::{Field, FieldName, FieldValue};
 use crate::fields::line::fields_line;
-use crate::fields::object::fields_json;
+use crate::fields::object::{fields_json, put_fields};
+use crate::reasons::Cause;
+use crate::{JsonOut, Reply};
 use jwt_settings::Printing;
 use std::alloc::{AllocError, Global};
 use std::marker::Model;
@@ -45,7 +46,7 @@ impl<'a> Fields<'a> {
     }
 
     /// A word of this program's.
-    pub fn word(&mut self, name: FieldName, text: &'a str) -> Result<(), AllocError>
+    pub fn word(&mut self, name: FieldName, text: &'static str) -> Result<(), AllocError>
         ensures { OnOk result (self.new ≡ self.old ++ word name text.now ∷ []) }
     {
         self.put(name, FieldValue::Word(text))
@@ -58,6 +59,27 @@ impl<'a> Fields<'a> {
         self.put(name, FieldValue::Count(number))
     }
 
+    /// The members of a JSON object that is being written.
+    pub(crate) fn members(&self, alloc: Global, out: &mut JsonOut) -> Result<(), AllocError> {
+        put_fields(alloc, out, self.fields.as_slice())
+    }
+
+    /// What it refuses or denies something for.
+    fn cause(&self) -> Cause {
+        let mut verdict = "";
+        let mut name = "";
+        for field in self.fields.as_slice() {
+            match (field.name, field.value) {
+                (FieldName::Verdict, FieldValue::Word(word)) => verdict = word,
+                (FieldName::Fault, FieldValue::Word(word)) => name = word,
+                (FieldName::Denial, FieldValue::Word(word)) => name = word,
+                (FieldName::Remedy, _) => return Cause::Remedied,
+                _ => {}
+            }
+        }
+        Cause::of(verdict, name)
+    }
+
     /// The answer: a line, or a JSON object.
     pub fn printed(
         &self,
@@ -67,9 +89,15 @@ impl<'a> Fields<'a> {
     ) -> Result<Reply, AllocError>
         ensures { IfOk result (λ a. reply_view a ≡ printed printing self.now status) }
     {
-        match printing {
-            Printing::Json => fields_json(alloc, self.fields.as_slice(), status),
-            Printing::Lines => fields_line(alloc, self.fields.as_slice(), status),
-        }
+        let cause = self.cause();
+        let text = match printing {
+            Printing::Json => fields_json(alloc, self.fields.as_slice())?,
+            Printing::Lines => fields_line(alloc, self.fields.as_slice())?,
+        };
+        Ok(Reply {
+            text,
+            status,
+            cause,
+        })
     }
 }

@@ -5,11 +5,10 @@ ghost use Rattle.json.specs.Tree.{json_tokens};
 ghost use Rattle.jwt_output.specs.fields.Fields.{field_view, fields_json, json_member};
 ghost use Rattle.jwt_output.specs.Json.{items_in, json_value};
 ghost use Rattle.jwt_output.specs.JsonTokens.{named_tokens};
-ghost use Rattle.jwt_output.specs.Views.{reply_view};
 ghost use Rattle.jwt_output.specs.verdicts.VerdictsJson.{state_json, state_members, try_json};
 
+use crate::JsonOut;
 use crate::fields::field::{Field, FieldValue};
-use crate::{JsonOut, Reply};
 use jwt_verify::{SigState, Try};
 use std::alloc::{AllocError, Global};
 
@@ -85,7 +84,10 @@ fn put_member(alloc: Global, out: &mut JsonOut, field: &Field<'_>) -> Result<(),
 {
     let name = field.name.names().1;
     match field.value {
-        FieldValue::Word(text) | FieldValue::Text(text) => out.text(name, text),
+        FieldValue::Word(text)
+        | FieldValue::Words(_, text)
+        | FieldValue::Text(text)
+        | FieldValue::Hint(text) => out.text(name, text),
         FieldValue::Count(count) => out.count(name, count),
         FieldValue::Json(octets) => out.value(alloc, name, octets),
         FieldValue::States(states) => {
@@ -99,14 +101,27 @@ fn put_member(alloc: Global, out: &mut JsonOut, field: &Field<'_>) -> Result<(),
     }
 }
 
-/// The JSON object of a list of fields.
+/// Puts fields.
 #[tactic(auto, using(std::proofs::lemmas::List::at_drop_more, std::proofs::lemmas::List::at_drop_all))]
-pub fn fields_json(alloc: Global, fields: &[Field<'_>], status: u8) -> Result<Reply, AllocError>
-    ensures { IfOk result (λ a. reply_view a ≡ fields_json (map field_view fields.now) status) }
+pub(crate) fn put_fields(
+    alloc: Global,
+    out: &mut JsonOut,
+    fields: &[Field<'_>],
+) -> Result<(), AllocError>
+    ensures { OnOk result
+        (out.new ≡ out.old ++ named_tokens (map json_member (map field_view fields.now))) }
+{
+    for field in fields {
+        put_member(alloc, out, field)?;
+    }
+    Ok(())
+}
+
+/// The JSON object of a list of fields.
+pub(crate) fn fields_json(alloc: Global, fields: &[Field<'_>]) -> Result<Vec<u8>, AllocError>
+    ensures { IfOk result (λ v. v.items ≡ fields_json (map field_view fields.now)) }
 {
     let mut out = JsonOut::object(alloc)?;
-    for field in fields {
-        put_member(alloc, &mut out, field)?;
-    }
-    out.reply(status)
+    put_fields(alloc, &mut out, fields)?;
+    out.line()
 }

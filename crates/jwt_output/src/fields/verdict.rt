@@ -4,13 +4,13 @@ ghost use Rattle.jwt_verify.specs.Reports.{FoundMemory};
 ghost use Rattle.jwt_verify.specs.declared.report.InputFault.TheVariants.{Read};
 ghost use Rattle.jwt_verify.specs.declared.report.Fault.TheVariants.{Text};
 ghost use Rattle.jwt_verify.specs.declared.report.Verdict.TheVariants.{Refused};
-ghost use Rattle.jwt_output.specs.fields.Fields.{printed};
-ghost use Rattle.jwt_output.specs.fields.Verdicts.{accepted_fields, acceptance, answer, claim_fields, evidence, form_fields, lacked_name, pair_fields, part_fields, place_fields, read_failed_fields, refusal, refused_fields, spot_fields, status_of};
+ghost use Rattle.jwt_output.specs.fields.Verdicts.{accepted_fields, acceptance, answer, claim_fields, evidence, form_fields, lacked_name, pair_fields, part_fields, place_fields, refusal, refused_fields, spot_fields, status_of};
 ghost use Rattle.jwt_output.specs.Views.{reply_view};
 
 use crate::Reply;
 use crate::fields::field::{FieldName, FieldValue};
 use crate::fields::list::Fields;
+use crate::refusals::printed_read_fault;
 use jwt_access::Denial;
 use jwt_jws::{FormFault, Place};
 use jwt_policy::ClaimFault;
@@ -19,7 +19,7 @@ use jwt_verify::{Fault, InputFault, Report, Verdict};
 use std::alloc::{AllocError, Global};
 
 /// A part of a signature.
-fn put_part<'a>(out: &mut Fields<'a>, part: &'a str, i: u32) -> Result<(), AllocError>
+fn put_part(out: &mut Fields<'_>, part: &'static str, i: u32) -> Result<(), AllocError>
     ensures { OnOk result (out.new ≡ out.old ++ part_fields part.now i) }
 {
     out.word(FieldName::Part, part)?;
@@ -38,7 +38,7 @@ fn put_spot(out: &mut Fields<'_>, spot: Place) -> Result<(), AllocError>
 }
 
 /// What a fault of the form names.
-fn put_form(out: &mut Fields<'_>, fault: FormFault) -> Result<(), AllocError>
+pub(crate) fn put_form(out: &mut Fields<'_>, fault: FormFault) -> Result<(), AllocError>
     ensures { OnOk result (out.new ≡ out.old ++ form_fields fault) }
 {
     match fault {
@@ -51,7 +51,7 @@ fn put_form(out: &mut Fields<'_>, fault: FormFault) -> Result<(), AllocError>
 }
 
 /// The claim that a fault names.
-fn put_claim<'a>(out: &mut Fields<'a>, fault: &ClaimFault<'a>) -> Result<(), AllocError>
+pub(crate) fn put_claim<'a>(out: &mut Fields<'a>, fault: &ClaimFault<'a>) -> Result<(), AllocError>
     ensures { OnOk result (out.new ≡ out.old ++ claim_fields fault.now) }
 {
     match fault {
@@ -157,16 +157,6 @@ fn status_of(lacks: &Option<Denial<'_>>) -> u8
     }
 }
 
-/// The answer where a read failed.
-pub fn read_failed(alloc: Global, printing: Printing) -> Result<Reply, AllocError>
-    ensures { IfOk result (λ a. reply_view a ≡ printed printing read_failed_fields 3) }
-{
-    let mut out = Fields::none(alloc);
-    out.word(FieldName::Verdict, "failed")?;
-    out.word(FieldName::Fault, "Read")?;
-    out.printed(alloc, printing, 3)
-}
-
 /// The answer to a refused token. Where memory was refused there is none.
 fn refusal<'a>(
     alloc: Global,
@@ -182,7 +172,7 @@ fn refusal<'a>(
 {
     match fault {
         Fault::OutOfMemory | Fault::VerifierMemory => Err(AllocError),
-        Fault::Text(InputFault::Read) => read_failed(alloc, printing),
+        Fault::Text(InputFault::Read) => printed_read_fault(alloc, printing),
         Fault::Text(InputFault::TooLong)
         | Fault::Form(_)
         | Fault::WorkExceeded(..)

@@ -1,5 +1,5 @@
 //! What the claims of a refused token have to do with its fault: how long ago it expired, and for whom it is.
-use crate::reasons::answers::refused_name;
+use crate::reasons::cause::Cause;
 use crate::terminal::push_quoted;
 use jwt_jws::parse;
 use jwt_policy::{Audience, Claims};
@@ -38,7 +38,7 @@ fn recipients(alloc: Global, audience: &Audience<'_>) -> Result<String, AllocErr
     Ok(words)
 }
 
-/// What a token's claims have to do with its refusal, by the line or the JSON object that the command has answered: of `Expired`, how long
+/// What a token's claims have to do with its refusal, by what the answer says: of `Expired`, how long
 /// ago that was at the moment of the verdict; of `Audience`, which recipients it has. None of any other answer. These two are the faults of
 /// claims whose signature verified. Each character of a recipient that a terminal may obey is escaped.
 ///
@@ -46,11 +46,13 @@ fn recipients(alloc: Global, audience: &Audience<'_>) -> Result<String, AllocErr
 /// `AllocError`, where an allocation was refused.
 pub fn claims_detail(
     alloc: Global,
-    answer: &[u8],
+    cause: Cause,
     token: &[u8],
     now: Moment,
 ) -> Result<Option<String>, AllocError> {
-    let name = refused_name(answer).unwrap_or("");
+    let Some((name, _)) = cause.row() else {
+        return Ok(None);
+    };
     if name != "Expired" && name != "Audience" {
         return Ok(None);
     }

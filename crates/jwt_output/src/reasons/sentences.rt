@@ -1,4 +1,4 @@
-//! What the refusals and the denials of a token mean and what to do, as docs/FAULTS.md has it, from which this is drawn.
+//! What the refusals and the denials of a token mean and what to do, drawn from gate/faults.txt by gate/faults.py.
 
 /// The refusals by their names, each with its sentences.
 pub(crate) const REFUSALS: [(&str, &str); 42] = [

@@ -5,9 +5,9 @@ ghost use Rattle.jwt_output.specs.verdicts.Views.{demands_view};
 ghost use Rattle.jwt_settings.specs.Seen.{expectation_view};
 
 use crate::verdicts::demands::Demands;
+use jwt_access::expected::{Expected, Unmet, Wanted, first_unmet};
 use jwt_access::laws::{denials_are_said, paths_are_spelled};
 use jwt_access::{AccessRule, Denial, DeniedName, Moment};
-use jwt_expected::{Expected, Unmet, Wanted, first_unmet};
 use jwt_mac::Alg;
 use jwt_policy::Claims;
 use jwt_settings::Expectation;

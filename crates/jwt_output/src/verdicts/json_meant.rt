@@ -1,8 +1,7 @@
 //! The output of `policy --json`.
-ghost use Rattle.std.specs.Prelude.{◌≡◌, IfOk};
 
+use crate::JsonOut;
 use crate::verdicts::members::{MEMBERS, Member, put_maybe_number, put_value};
-use crate::{JsonOut, Reply};
 use jwt_advice::{AlgKeys, Findings, KeyFacts, Note};
 use jwt_policy::Policy;
 use jwt_text::ObjectRef;
@@ -151,13 +150,10 @@ pub(crate) fn policy_json(
     document: &ObjectRef<'_>,
     policy: &Policy,
     found: &Findings,
-    status: u8,
-) -> Result<Reply, AllocError>
-    ensures { IfOk result (λ a. a.status ≡ status) }
-{
+) -> Result<Vec<u8>, AllocError> {
     let mut out = JsonOut::object(alloc)?;
     put_all(&mut out, document, policy)?;
     put_facts(&mut out, policy, &found.facts)?;
     put_notes(&mut out, found.notes.as_slice())?;
-    out.reply(status)
+    out.line()
 }

@@ -5,20 +5,17 @@ ghost use Rattle.jwt_verify.specs.declared.report.SigState.{SigState as State};
 ghost use Rattle.jwt_verify.specs.declared.report.Try.{Try as Tried};
 ghost use Rattle.jwt_verify.specs.declared.report.Verdict.{Verdict as Judged};
 ghost use Rattle.jwt_output.specs.verdicts.Denied.{Demands, IsPassed};
-ghost use Rattle.jwt_output.specs.verdicts.Verdicts.{verdict_json, verify_line};
+ghost use Rattle.jwt_output.specs.verdicts.Verdicts.{verdict_answer};
+ghost use Rattle.jwt_settings.specs.declared.printing.Printing.{Printing as Way};
 
 use jwt_access::laws::{denials_are_said, paths_are_spelled};
 
 /// The answer to a token has the status 0 exactly where the token is accepted and its claims meet the access rule and are what is
 /// expected, where these are asked: in lines and in JSON.
 pub fn accepted_are_granted()
-    ensures lines { (demands : Demands) (at : At) (verdict : Judged) (states : List State)
-        (tries : List Tried) (work : ℕ)
-        → ((verify_line demands at verdict states tries work).status ≡ 0)
-        ↔ IsPassed demands at verdict }
-    ensures json { (demands : Demands) (at : At) (verdict : Judged) (payload : List ℕ)
+    ensures { (printing : Way) (demands : Demands) (at : At) (verdict : Judged) (payload : List ℕ)
         (states : List State) (tries : List Tried) (work : ℕ)
-        → ((verdict_json demands at verdict payload states tries work).status ≡ 0)
+        → ((verdict_answer printing demands at verdict payload states tries work).status ≡ 0)
         ↔ IsPassed demands at verdict }
 {
     denials_are_said();

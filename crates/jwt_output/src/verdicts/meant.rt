@@ -180,11 +180,9 @@ pub fn printed_policy(
     ensures { IfOk result (λ a. a.status ≡ status_of (findings_view found.now).notes) }
 {
     let status = status_of(found.notes.as_slice());
-    match printing {
-        Printing::Json => policy_json(alloc, document, policy, found, status),
-        Printing::Lines => Ok(Reply {
-            text: policy_lines(alloc, document, policy, found)?,
-            status,
-        }),
-    }
+    let text = match printing {
+        Printing::Json => policy_json(alloc, document, policy, found)?,
+        Printing::Lines => policy_lines(alloc, document, policy, found)?,
+    };
+    Ok(Reply::of(text, status))
 }

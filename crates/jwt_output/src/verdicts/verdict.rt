@@ -5,7 +5,7 @@ ghost use Rattle.jwt_verify.specs.declared.report.InputFault.TheVariants.{Read};
 ghost use Rattle.jwt_verify.specs.declared.report.Fault.TheVariants.{Text};
 ghost use Rattle.jwt_verify.specs.declared.report.Verdict.TheVariants.{Refused};
 ghost use Rattle.jwt_output.specs.fields.Verdicts.{lacks_of};
-ghost use Rattle.jwt_output.specs.verdicts.Verdicts.{verdict_json, verify_line};
+ghost use Rattle.jwt_output.specs.verdicts.Verdicts.{verdict_answer};
 ghost use Rattle.jwt_output.specs.Views.{reply_view};
 ghost use Rattle.jwt_output.specs.verdicts.Views.{demands_view};
 
@@ -28,38 +28,22 @@ fn lacks_of<'a>(demands: &Demands<'a>, verdict: &Verdict<'_>) -> Option<Denial<'
     }
 }
 
-/// The line of a report, where the claims of an accepted token are held against these demands at the moment of the verdict. Where memory
-/// was refused there is none.
-pub fn report_line(
+/// The answer for a report, where the claims of an accepted token are held against these demands at the moment of the verdict. In JSON it has
+/// the payload of the token where it is accepted and its claims lack nothing. Where memory was refused there is none.
+pub fn printed_report<'a>(
     alloc: Global,
-    report: &Report<'_>,
-    demands: &Demands<'_>,
+    printing: Printing,
+    report: &'a Report<'a>,
+    demands: &Demands<'a>,
+    payload: &'a [u8],
     work: u64,
 ) -> Result<Reply, AllocError>
     ensures line { IfOk result (λ a. reply_view a
-        ≡ verify_line (demands_view demands.now) demands.now.moment report.now.verdict
-        report.now.states.items report.now.tries.items work) }
+        ≡ verdict_answer printing (demands_view demands.now) demands.now.moment report.now.verdict
+        payload.now report.now.states.items report.now.tries.items work) }
     ensures memory { IfOk result (λ a. FoundMemory report.now.verdict) }
     ensures failed { IfOk result (λ a. a.status ≡ 3 → report.now.verdict ≡ Refused (Text Read)) }
 {
     let lacks = lacks_of(demands, &report.verdict);
-    report_answer(alloc, Printing::Lines, report, &lacks, b"", work)
-}
-
-/// The same as one JSON object, with the payload of the token where it is accepted and its claims lack nothing.
-pub fn report_json(
-    alloc: Global,
-    report: &Report<'_>,
-    demands: &Demands<'_>,
-    payload: &[u8],
-    work: u64,
-) -> Result<Reply, AllocError>
-    ensures line { IfOk result (λ a. reply_view a
-        ≡ verdict_json (demands_view demands.now) demands.now.moment report.now.verdict payload.now
-        report.now.states.items report.now.tries.items work) }
-    ensures memory { IfOk result (λ a. FoundMemory report.now.verdict) }
-    ensures failed { IfOk result (λ a. a.status ≡ 3 → report.now.verdict ≡ Refused (Text Read)) }
-{
-    let lacks = lacks_of(demands, &report.verdict);
-    report_answer(alloc, Printing::Json, report, &lacks, payload, work)
+    report_answer(alloc, printing, report, &lacks, payload, work)
 }

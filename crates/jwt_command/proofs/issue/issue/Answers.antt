@@ -14,7 +14,7 @@ pub returns-in-Err-TooLong-clause-line : goal.returns-in-Err-TooLong-clause-line
 returns-in-Err-TooLong-clause-line g c =
     IfSome_then (g.R.Source.remaining c.args.r.now) c.in-Err-TooLong.ensures.fails
     (λ x h. let long = rw c.in-Err-TooLong.field-0-is at h in
-    subst (λ (a : Answer). IfOk c.on_fault.result (λ r. reply_view r.reply ≡ a)) (issue_line_too_long (options_parts c.args.options) (option_map (λ t. t.now) c.args.keys) x _ long.1 long.0) c.on_fault.ensures.line)
+    subst (λ (a : Answer). IfOk c.refused_keys.result (λ r. reply_view r.reply ≡ a)) (issue_line_too_long (options_parts c.args.options) (option_map (λ t. t.now) c.args.keys) x _ long.1 long.0) c.refused_keys.ensures.line)
 
 pub returns-in-Err-TooLong-clause-stops : goal.returns-in-Err-TooLong-clause-stops
 returns-in-Err-TooLong-clause-stops g c = IfSome_then (g.R.Source.remaining c.args.r.now) c.in-Err-TooLong.ensures.taken (λ x h. document_stops LONGEST_KEY_SET (behind_keys (LONGEST_TOKEN + 1) (key_set_of (document (option_map (λ t. t.now) c.args.keys) x))) (option_map (λ t. t.now) c.args.keys) x _ _ h)

@@ -16,5 +16,5 @@ returns-clause-answer g c =
     let short : length c.in-Some.input.octets ≤ c.args.limit = subst (λ (n : ℕ). length c.in-Some.input.octets ≤ n) bound (not_longer _ _ _ c.is_too_long.ensures c.if-is_too_long.false) in
     let text = c.without_line_feed.ensures.value ∙ ap (without_line_feed true) c.octets.ensures.value in
     IfSome_then (g.R.Source.remaining c.args.r.now) read
-    (λ x taken. shown_is c.args.printing c.args.limit x c.in-Some.input.octets _ (reply_view c.of_form.result.reply) taken short works
-    (ap (λ (a : Answer). a.status) (ap reply_view c.of_form.ensures.reply) ∙ c.in_ok-told.ensures.status ∙ ap (λ z. form_status (form_of 32 z)) text))
+    (λ x taken. shown_is c.args.printing c.args.limit x c.in-Some.input.octets _ (reply_view c.on-2.result.reply) taken short works
+    (ap (λ (a : Answer). a.status) (ap reply_view c.on-2.ensures.reply) ∙ c.in_ok-told.ensures.status ∙ ap (λ z. form_status (form_of 32 z)) text))

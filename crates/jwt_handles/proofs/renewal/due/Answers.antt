@@ -1,9 +1,9 @@
 use Rattle.std.proofs.Common.{◌↔◌, ◌≤◌, ◌∷◌, ℕ, List, subst}
-use Rattle.jwt_renewal.specs.History.{Event, passed}
-use Rattle.jwt_renewal.specs.Rules.{Wants, MayBegin}
-use Rattle.jwt_renewal.specs.Standing.{Stands}
-use Rattle.jwt_renewal.specs.declared.renewal.Renewal.{Renewal}
-use Rattle.jwt_renewal.specs.declared.asker.Asker.TheVariants.{Token}
+use Rattle.jwt_request.specs.renewal.History.{Event, passed}
+use Rattle.jwt_request.specs.renewal.Rules.{Wants, MayBegin}
+use Rattle.jwt_request.specs.renewal.Standing.{Stands}
+use Rattle.jwt_request.specs.declared.renewal.renewal.Renewal.{Renewal}
+use Rattle.jwt_request.specs.declared.renewal.asker.Asker.TheVariants.{Token}
 use Rattle.jwt_handles.proofs.renewal.due.Goals as goal
 
 pub returns : goal.returns

@@ -1,5 +1,5 @@
 use Rattle.std.proofs.Common.{ap, sym, ◌∙◌}
-use Rattle.jwt_once.specs.declared.once.Times.{Times}
+use Rattle.jwt_possession.specs.declared.once.once.Times.{Times}
 use Rattle.jwt_possession.proofs.laws.no_proof_twice.Goals as goal
 
 pub returns : goal.returns

@@ -3,7 +3,7 @@ use Rattle.std.proofs.Math.Path.{ap₂}
 use Rattle.std.specs.Str.{bytes_eq}
 use Rattle.std.proofs.lemmas.Bool.{and_left, false_from_ne_true, OnTrue_at}
 use Rattle.std.proofs.lemmas.Slice.Eq.{bytes_eq-Decides}
-use Rattle.rsa_number.specs.Octets.{i2osp, without_zeros}
+use Rattle.jwt_rsa.specs.powers.Octets.{i2osp, without_zeros}
 use Rattle.jwt_rsa.specs.Pkcs1.{encoded_message, pkcs1_accepts}
 use Rattle.jwt_rsa.proofs.Keys.{not_key, by_answer, all_asked, representative, same_tests}
 use Rattle.jwt_rsa.proofs.Salts.{and_true, length-i2osp}

@@ -1,7 +1,7 @@
 use Rattle.std.proofs.Common.{◌≡◌, ◌^◌, ◌<◌, length, sym, ap, ◌∙◌, arith}
 use Rattle.std.proofs.Math.Nat.{mod-lt}
 use Rattle.std.proofs.lemmas.Bool.{and_left, false_from_ne_true, OnTrue_at}
-use Rattle.rsa_number.specs.Octets.{os2ip, without_zeros}
+use Rattle.jwt_rsa.specs.powers.Octets.{os2ip, without_zeros}
 use Rattle.jwt_rsa.specs.PublicKey.{rsavp1}
 use Rattle.jwt_rsa.specs.Pss.{pss_represents, pss_accepts}
 use Rattle.jwt_rsa.proofs.Keys.{not_key, by_answer, all_asked, representative}

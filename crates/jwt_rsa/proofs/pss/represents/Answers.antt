@@ -3,8 +3,8 @@ use Rattle.std.proofs.Math.Path.{ap₂}
 use Rattle.std.specs.Int.{div_ceil}
 use Rattle.std.proofs.lemmas.Bool.{and_left, le-ltb, lt-ltb}
 use Rattle.std.proofs.lemmas.List.{take_rest}
-use Rattle.rsa_number.specs.Octets.{i2osp}
-use Rattle.rsa_number.specs.Moduli.{bit_count}
+use Rattle.jwt_rsa.specs.powers.Octets.{i2osp}
+use Rattle.jwt_rsa.specs.powers.Moduli.{bit_count}
 use Rattle.jwt_rsa.specs.Pss.{pss_represents, pss_verified}
 use Rattle.jwt_rsa.proofs.Salts.{top_rest, top_above, top_below, and_true}
 use Rattle.jwt_rsa.proofs.pss.represents.Goals as goal

@@ -1,5 +1,5 @@
 use Rattle.std.proofs.Common.{ap, Bool}
-use Rattle.jwt_renewal.specs.declared.renewal.Renewal.{Renewal}
+use Rattle.jwt_request.specs.declared.renewal.renewal.Renewal.{Renewal}
 use Rattle.jwt_handles.proofs.renewal.FowRenewal.of.Goals as goal
 
 pub returns : goal.returns

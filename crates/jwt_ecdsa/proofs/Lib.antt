@@ -1,2 +1,0 @@
--- ---- For prepared.rt
-pub mod Counted

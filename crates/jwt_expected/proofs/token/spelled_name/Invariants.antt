@@ -1,5 +1,0 @@
-use Rattle.jwt_expected.proofs.Tokens.{NoneBefore}
-use Rattle.jwt_expected.proofs.token.spelled_name.Given as goal
-
-abbrev pub invariant-loop-place : goal.invariant-loop-place
-invariant-loop-place l = NoneBefore l.token l.home l.place

@@ -1,5 +1,0 @@
-use Rattle.jwt_once.proofs.Moments.{in_time}
-use Rattle.jwt_once.proofs.laws.in_time.Goals as goal
-
-pub returns : goal.returns
-returns c policy claims now exp accepted is = in_time now exp policy.claims.leeway (((c.claims_hold.ensures policy claims now).0 accepted).exp exp is)

@@ -1,5 +1,0 @@
-use Rattle.jwt_once.proofs.Runs.{never_twice_for}
-use Rattle.jwt_once.proofs.laws.never_twice_for.Goals as goal
-
-pub returns : goal.returns
-returns c = never_twice_for

@@ -1,5 +1,0 @@
-use Rattle.jwt_once.proofs.Shares.{room_for_all}
-use Rattle.jwt_once.proofs.laws.room_for_all.Goals as goal
-
-pub returns : goal.returns
-returns c = room_for_all

@@ -1,0 +1,22 @@
+-- ---- For admitting.rt
+pub mod Verdicts
+-- ---- For expecting.rt
+pub mod Expectations
+-- ---- For issuers.rt
+pub mod Choices
+-- ---- For laws.rt
+pub mod OneRequest
+pub mod OneAnswer
+pub mod OneIssuer
+pub mod HandedOut
+-- ---- For rule.rt
+pub mod Denied
+-- ---- For shown.rt
+pub mod OneValue
+-- ---- For unshown.rt
+pub mod Bound
+-- ---- For several files
+pub mod Tests
+-- ---- For other lemmas
+pub mod Below
+pub mod OneEntry

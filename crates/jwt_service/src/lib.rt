@@ -1,0 +1,37 @@
+//! One question a request: whether it is let through, and by which claims, or the first cause why not.
+//!
+//! [`decide`] says whether all holds of a request but that its proof and its token are new, and what has to be taken for that: it is handed no memory, so it
+//! can't use anything up. A memory or a store is asked then, for the proof first, and [`Passed::settle`] is told what it answered, and hands out the claims.
+//! [`admit`] is both, over memories of the library's own.
+//!
+//! ```rust
+//! match admit(alloc, &service, &verifiers, &mut books, &call) {
+//!     Admission::Admitted(claims) => serve(claims),
+//!     other => answer(other.reply(&service)),
+//! }
+//! ```
+#![tactic(auto)]
+
+mod admission;
+mod admitting;
+mod books;
+mod call;
+mod entries;
+mod expecting;
+mod issuers;
+pub mod laws;
+mod path;
+mod proving;
+mod reply;
+mod rule;
+mod service;
+mod shown;
+mod unshown;
+
+pub use admission::{Admission, Passed, Refusal};
+pub use admitting::{admit, decide};
+pub use books::Books;
+pub use call::Call;
+pub use proving::ProvingFault;
+pub use service::{Issuer, Proofs, Service};
+pub use shown::{Shown, shown_in};
