@@ -48,22 +48,25 @@ impl AccessRule {
             return Err(AccessFault::TooLong);
         }
         match object(alloc, document) {
-            Ok(members) => rule(alloc, &members.lend()),
+            Ok(members) => AccessRule::of_members(alloc, &members.lend()),
             Err(TextFault::OutOfMemory) => Err(AccessFault::OutOfMemory),
             Err(TextFault::NameTwice) => Err(AccessFault::NameTwice),
             Err(_) => Err(AccessFault::Json),
         }
     }
-}
 
-/// The rule that these members say.
-#[tactic(auto, unfolding(crate::specs::Document::rule_in))]
-fn rule(alloc: Global, members: &ObjectRef<'_>) -> Result<AccessRule, AccessFault>
-    ensures { ¬ IsErrOf result AccessFault.OutOfMemory → result ≡ rule_in members.now }
-{
-    match first_unknown(members) {
-        Some(name) => Err(AccessFault::member(alloc, name)),
-        None => settings(alloc, members),
+    /// The rule of these members, as [`AccessRule::read`] reads those of a document.
+    ///
+    /// # Errors
+    /// As [`AccessRule::read`], but for what is said of a whole text: `TooLong`, `Json`, `NameTwice`.
+    #[tactic(auto, unfolding(crate::specs::Document::rule_in))]
+    pub fn of_members(alloc: Global, members: &ObjectRef<'_>) -> Result<AccessRule, AccessFault>
+        ensures { ¬ IsErrOf result AccessFault.OutOfMemory → result ≡ rule_in members.now }
+    {
+        match first_unknown(members) {
+            Some(name) => Err(AccessFault::member(alloc, name)),
+            None => settings(alloc, members),
+        }
     }
 }
 

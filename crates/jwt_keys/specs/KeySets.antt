@@ -38,8 +38,12 @@ abbrev pub set_of : Option (List Data) → Result KeyList KeysFault
 set_of None = Err NotKeySet
 set_of (Some ds) = if nat_lt 1024 (length ds) then Err TooManyKeys else Ok (key_list ds)
 
+-- the key set of members, or the first cause why there is none
+abbrev pub set_in_members : Members → Result KeyList KeysFault
+set_in_members ms = set_of (list_at (codes "keys") ms)
+
 abbrev pub set_in : Result Members TextFault → Result KeyList KeysFault
-set_in (Ok ms) = set_of (list_at (codes "keys") ms)
+set_in (Ok ms) = set_in_members ms
 set_in (Err NotObject) = Err NotKeySet
 set_in (Err DoubledName) = Err NameTwice
 set_in (Err _) = Err Json

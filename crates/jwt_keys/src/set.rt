@@ -32,7 +32,7 @@ pub struct KeySet {
 
 impl KeySet {
     ghost use Rattle.jwt_text.specs.Answers.{Answers};
-    ghost use Rattle.jwt_keys.specs.KeySets.{key_list, key_set_of, key_set};
+    ghost use Rattle.jwt_keys.specs.KeySets.{key_list, key_set_of, set_in_members, key_set};
 
     /// The key set of a document in UTF-8: an object with the list `keys`, of at most 1,024 entries, in at most
     /// 4,194,304 octets (RFC 7517, section 5). An entry that is no readable key is skipped and never refuses the set.
@@ -56,7 +56,17 @@ impl KeySet {
             Err(TextFault::NameTwice) => return Err(KeysFault::NameTwice),
             Err(_) => return Err(KeysFault::Json),
         };
-        let Some(entries) = document.lend().list("keys") else {
+        KeySet::of_members(alloc, &document.lend())
+    }
+
+    /// The key set of these members, as [`KeySet::read`] reads those of a document.
+    ///
+    /// # Errors
+    /// `NotKeySet`, no list `keys`; `TooManyKeys`, more than 1,024 entries; `OutOfMemory`, where an allocation was refused.
+    pub fn of_members(alloc: Global, members: &ObjectRef<'_>) -> Result<KeySet, KeysFault>
+        ensures { Answers KeysFault.OutOfMemory key_set result (set_in_members members.now) }
+    {
+        let Some(entries) = members.list("keys") else {
             return Err(KeysFault::NotKeySet);
         };
         if entries.len() > MAX_ENTRIES {

@@ -20,6 +20,8 @@ pub mod MemberKinds
 pub mod Document
 -- the ceiling on tries of whoever opens documents once and judges many tokens by them
 pub mod Ceilings
+-- what a service asks where the policy of an issuer doesn't say it
+pub mod InService
 -- the names of faults
 pub mod FaultNames
 -- the laws of the tables, in words

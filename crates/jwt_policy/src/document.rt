@@ -62,7 +62,7 @@ impl Policy {
 
 /// The policy that these members say.
 #[tactic(auto, unfolding(crate::specs::Document::policy_in))]
-fn policy(alloc: Global, members: &ObjectRef<'_>) -> Result<Policy, PolicyFault>
+pub(crate) fn policy(alloc: Global, members: &ObjectRef<'_>) -> Result<Policy, PolicyFault>
     ensures { ¬ IsErrOf result PolicyFault.OutOfMemory → result ≡ policy_in members.now }
 {
     match first_unknown(members) {

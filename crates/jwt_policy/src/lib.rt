@@ -24,6 +24,7 @@ mod crit;
 mod document;
 mod eligibility;
 mod header;
+mod in_service;
 pub mod laws;
 mod media;
 mod member_kinds;
