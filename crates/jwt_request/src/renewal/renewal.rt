@@ -70,7 +70,7 @@ impl Renewal {
     }
 
     /// Time passes. Where the clock went back, none does.
-    fn hear(&mut self, now: u64)
+    pub fn hear(&mut self, now: u64)
         ensures times { self.new.times ≡ self.old.times }
         ensures heard { self.new.heard ≡ now }
         ensures stands { (h : List Event) → Stands self.old h → Stands self.new (passed (now - self.old.heard) ∷ h) }
@@ -91,13 +91,15 @@ impl Renewal {
         }
     }
 
-    fn is_usable(&self) -> bool
+    /// Whether the keys are to be used at the moment that was told last.
+    pub fn is_usable(&self) -> bool
         ensures { (h : List Event) → Stands self.now h → IsTrue result ↔ IsUsable self.now.times h }
     {
         self.keys_age < self.times.max_age
     }
 
-    fn is_under_way(&self) -> bool
+    /// Whether a fetch is under way at the moment that was told last.
+    pub fn is_under_way(&self) -> bool
         ensures in_time { IsTrue result → self.now.begun_age < self.now.times.timeout }
         ensures told { (h : List Event) → Stands self.now h → IsTrue result ↔ IsUnderWay self.now.times h }
     {
@@ -210,7 +212,7 @@ impl Renewal {
     }
 
     /// After how many milliseconds more none is under way.
-    fn over_in(&self) -> u64
+    pub fn over_in(&self) -> u64
         ensures { (h : List Event) (more : ℕ) → Stands self.now h
             → (result ≤ more) ↔ (¬ IsUnderWay self.now.times (passed more ∷ h)) }
     {
