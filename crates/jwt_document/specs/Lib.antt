@@ -1,0 +1,26 @@
+-- ---- What contracts of public functions cite, in reading order
+
+-- the tables of members of a document
+pub mod Rows
+-- the members of the document of a service, object by object
+pub mod Service
+-- the tables of members, and the first fault of an object by them
+pub mod Tables
+-- the keys that stand in the document, and the URL of those that don't
+pub mod Given
+-- the issuers of a service
+pub mod Entries
+-- what the issuers of a service say together
+pub mod Together
+-- what members need of each other
+pub mod Needs
+-- the rules of a service, by name
+pub mod Rules
+-- the document of a service, or the first cause to refuse it
+pub mod Documents
+-- a document as contracts see it
+pub mod Meanings
+-- ---- What contracts of private functions alone cite, which nobody has to believe
+
+-- rows, tables and faults as contracts see them
+pub mod Views

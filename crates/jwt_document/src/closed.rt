@@ -1,0 +1,315 @@
+//! The first fault of an object, by tables of its members.
+
+ghost use Rattle.std.specs.Prelude.{◌≡◌, map, option_map};
+ghost use Rattle.std.specs.List.{list_any, list_all};
+ghost use Rattle.jwt_policy.specs.Texts.{is_among, each_text};
+ghost use Rattle.jwt_document.specs.Tables.{between, is_printable, is_origin, is_public, is_free, is_form, text_passes, is_element, cause_in, row_cause, is_known, unknown_in, wrong_in, fault_in, table_fault};
+ghost use Rattle.jwt_document.specs.Views.{found, wrong, kind_view, row_view, table_view};
+
+use crate::rows::{Absent, Cause, Form, Kind, Row, Within};
+use jwt_mac::Alg;
+use jwt_request::urls::url_of;
+use jwt_text::{List, ObjectRef};
+
+/// A fault: its cause, and the member, which may be absent.
+#[derive(Clone, Copy)]
+pub(crate) struct Found<'a> {
+    pub(crate) cause: Cause,
+    pub(crate) within: Within,
+    pub(crate) name: &'a str,
+}
+
+/// A member that is wrong.
+#[derive(Clone, Copy)]
+struct Wrong<'a> {
+    cause: Cause,
+    name: &'a str,
+}
+
+// ---- values
+
+/// Whether the number is at least and at most so much.
+fn is_between(least: u64, most: u64, value: i64) -> bool
+    ensures { result ≡ between least most value }
+{
+    match u64::try_from(value) {
+        Ok(value) => least <= value && value <= most,
+        Err(_) => false,
+    }
+}
+
+/// Whether each octet is printable ASCII, and neither `"` nor `\`.
+fn is_printable(text: &[u8]) -> bool
+    ensures { result ≡ list_all is_printable text.now }
+{
+    for octet in text {
+        if !(32 <= *octet && *octet <= 126 && *octet != 34 && *octet != 92) {
+            return false;
+        }
+    }
+    true
+}
+
+/// Whether this is a scheme, a host and a port or none, with nothing behind them.
+fn is_origin(text: &str) -> bool
+    ensures { result ≡ is_origin text.now }
+{
+    match url_of(text.as_bytes(), true) {
+        Some(url) => url.target == text.len(),
+        None => false,
+    }
+}
+
+/// Whether this is the name of an algorithm for public keys.
+fn is_public(text: &str) -> bool
+    ensures { result ≡ is_public text.now }
+{
+    match Alg::from_text(text) {
+        Some(alg) => !alg.is_hmac(),
+        None => false,
+    }
+}
+
+/// Whether the claim is free for the issuer of a token of its own.
+fn is_free(text: &str) -> bool
+    ensures { result ≡ is_free text.now }
+{
+    !matches!(text, "iss" | "aud" | "iat" | "exp")
+}
+
+/// Whether the text is of this form.
+fn is_form(form: Form, text: &str) -> bool
+    ensures { result ≡ is_form form text.now }
+{
+    match form {
+        Form::Any => true,
+        Form::Printable => is_printable(text.as_bytes()),
+        Form::Origin => is_origin(text),
+        Form::PublicAlg => is_public(text),
+        Form::FreeClaim => is_free(text),
+    }
+}
+
+/// Whether the text is of this form, of at least and at most so many octets.
+fn text_passes(form: Form, least: usize, most: usize, text: &str) -> bool
+    ensures { result ≡ text_passes form least most text.now }
+{
+    least <= text.len() && text.len() <= most && is_form(form, text)
+}
+
+/// Whether the text is one of these.
+fn is_word(words: &[&'static str], text: &str) -> bool
+    ensures { result ≡ is_among (map (λ w. w.now) words.now) text.now }
+{
+    for word in words {
+        if text == *word {
+            return true;
+        }
+    }
+    false
+}
+
+/// Whether the element of a list is of this form and not empty.
+fn is_element(form: Form, text: &str) -> bool
+    ensures { result ≡ is_element form text.now }
+{
+    1 <= text.len() && is_form(form, text)
+}
+
+/// Whether each element is a text of this form and not empty.
+#[tactic(auto, using(jwt_policy::proofs::ItemsLemmas::each_more, std::proofs::lemmas::List::at_drop_all))]
+fn each_passes(form: Form, list: &List<'_>) -> bool
+    ensures { result ≡ each_text (is_element form) list.now }
+{
+    for place in 0..list.len() {
+        match list.text(place) {
+            Some(text) => {
+                if !is_element(form, text) {
+                    return false;
+                }
+            }
+            None => return false,
+        }
+    }
+    true
+}
+
+/// Why this member isn't of the kind.
+fn cause_in(kind: Kind, name: &str, members: &ObjectRef<'_>) -> Option<Cause>
+    ensures { result ≡ cause_in (kind_view kind) name.now members.now }
+{
+    match kind {
+        Kind::Flag => {
+            if members.flag(name).is_some() {
+                None
+            } else {
+                Some(Cause::Kind)
+            }
+        }
+        Kind::Given => match members.flag(name) {
+            None => Some(Cause::Kind),
+            Some(given) => { if given { None } else { Some(Cause::Range) } }
+        },
+        Kind::Whole(least, most) => match members.whole(name) {
+            None => Some(Cause::Kind),
+            Some(value) => {
+                if is_between(least, most, value) {
+                    None
+                } else {
+                    Some(Cause::Range)
+                }
+            }
+        },
+        Kind::Text(form, least, most) => match members.text(name) {
+            None => Some(Cause::Kind),
+            Some(text) => {
+                if text_passes(form, least, most, text) {
+                    None
+                } else {
+                    Some(Cause::Range)
+                }
+            }
+        },
+        Kind::Word(words) => match members.text(name) {
+            None => Some(Cause::Kind),
+            Some(text) => {
+                if is_word(words, text) {
+                    None
+                } else {
+                    Some(Cause::Range)
+                }
+            }
+        },
+        Kind::Texts(form, least, most) => match members.list(name) {
+            None => Some(Cause::Kind),
+            Some(list) => {
+                if !list.are_texts() {
+                    Some(Cause::Kind)
+                } else if least <= list.len() && list.len() <= most && each_passes(form, &list) {
+                    None
+                } else {
+                    Some(Cause::Range)
+                }
+            }
+        },
+        Kind::Object => {
+            if members.object(name).is_some() {
+                None
+            } else {
+                Some(Cause::Kind)
+            }
+        }
+        Kind::List(most) => match members.list(name) {
+            None => Some(Cause::Kind),
+            Some(list) => {
+                if list.len() <= most {
+                    None
+                } else {
+                    Some(Cause::Range)
+                }
+            }
+        },
+    }
+}
+
+/// Why the member of this row is refused.
+fn row_cause(row: &Row, members: &ObjectRef<'_>) -> Option<Cause>
+    ensures { result ≡ row_cause members.now (row_view row.now) }
+{
+    if members.has(row.name) {
+        return cause_in(row.kind, row.name, members);
+    }
+    match row.absent {
+        Absent::Refused => Some(Cause::Missing),
+        _ => None,
+    }
+}
+
+// ---- objects
+
+/// Whether one of the rows has this name.
+fn is_known(rows: &[Row], name: &str) -> bool
+    ensures { result ≡ is_known (map row_view rows.now) name.now }
+{
+    for row in rows {
+        if name == row.name {
+            return true;
+        }
+    }
+    false
+}
+
+/// The first name, in byte order, that no row has.
+#[tactic(auto, using(crate::proofs::NamesLemmas::length_names, crate::proofs::NamesLemmas::unknown_here, crate::proofs::NamesLemmas::unknown_later, crate::proofs::NamesLemmas::unknown_end, crate::proofs::NamesLemmas::unknown_past))]
+fn first_unknown<'a>(rows: &[Row], members: &ObjectRef<'a>) -> Option<&'a str>
+    ensures { option_map (λ s. s.now) result ≡ unknown_in (map row_view rows.now) members.now }
+{
+    for place in 0..members.member_count() {
+        match members.name(place) {
+            Some(name) => {
+                if !is_known(rows, name) {
+                    return Some(name);
+                }
+            }
+            None => return None,
+        }
+    }
+    None
+}
+
+/// The first row whose member is refused.
+fn first_wrong(rows: &[Row], members: &ObjectRef<'_>) -> Option<Wrong<'static>>
+    ensures { option_map wrong result ≡ wrong_in members.now (map row_view rows.now) }
+{
+    for row in rows {
+        if let Some(cause) = row_cause(row, members) {
+            return Some(Wrong {
+                cause,
+                name: row.name,
+            });
+        }
+    }
+    None
+}
+
+/// The first fault of an object: an unknown name, then row by row.
+fn fault_in<'a>(rows: &[Row], members: &ObjectRef<'a>) -> Option<Wrong<'a>>
+    ensures { option_map wrong result ≡ fault_in (map row_view rows.now) members.now }
+{
+    match first_unknown(rows, members) {
+        Some(name) => Some(Wrong {
+            cause: Cause::Unknown,
+            name,
+        }),
+        None => match first_wrong(rows, members) {
+            Some(wrong) => Some(Wrong {
+                cause: wrong.cause,
+                name: wrong.name,
+            }),
+            None => None,
+        },
+    }
+}
+
+/// The first fault of the object that a table is of, none where it is absent.
+pub(crate) fn table_fault<'a>(
+    within: Within,
+    rows: &[Row],
+    whole: &ObjectRef<'a>,
+) -> Option<Found<'a>>
+    ensures { option_map found result ≡ table_fault whole.now (table_view within rows.now) }
+{
+    let fault = match within {
+        Within::Whole => fault_in(rows, whole),
+        Within::Member(name) => fault_in(rows, &whole.object(name)?),
+        Within::Inner(outer, name) => fault_in(rows, &whole.object(outer)?.object(name)?),
+    };
+    match fault {
+        Some(wrong) => Some(Found {
+            cause: wrong.cause,
+            within,
+            name: wrong.name,
+        }),
+        None => None,
+    }
+}

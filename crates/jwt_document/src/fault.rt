@@ -1,0 +1,180 @@
+//! The causes to refuse the document of a service.
+
+ghost use Rattle.std.specs.Prelude.{◌≡◌, ◌≢◌, IfOk};
+ghost use Rattle.jwt_document.specs.declared.fault.ServiceFault.TheVariants.{OutOfMemory};
+ghost use Rattle.jwt_document.specs.Rows.{within_view};
+ghost use Rattle.jwt_document.specs.Views.{found};
+
+use crate::closed::Found;
+use crate::rows::{Cause, Within};
+use jwt_access::AccessFault;
+use jwt_keys::KeysFault;
+use jwt_policy::PolicyFault;
+use std::alloc::{AllocError, AllocFailed, Global};
+use std::marker::Model;
+
+/// A member that is refused, or is missing.
+#[derive(Drop)]
+pub struct FaultAt {
+    cause: Cause,
+    within: Within,
+    name: String,
+}
+
+impl Model for FaultAt {
+    ghost use Rattle.std.specs.Prelude.{string_bytes};
+    ghost use Rattle.jwt_document.specs.Tables.{Fault};
+    ghost use Rattle.jwt_document.specs.Rows.{within_view};
+
+    ghost Value = { Fault };
+
+    ghost view = { λ f. record {
+      cause = f.cause;
+      within = within_view f.within;
+      name = string_bytes f.name;
+    } };
+}
+
+impl FaultAt {
+    /// This fault. Refused where an allocation was.
+    fn new(alloc: Global, fault: Found<'_>) -> Result<FaultAt, AllocError>
+        ensures { IfOk result (λ f. f ≡ found fault.entry) }
+    {
+        let name = String::from_str(alloc, fault.name)?;
+        Ok(FaultAt {
+            cause: fault.cause,
+            within: fault.within,
+            name,
+        })
+    }
+
+    /// The cause.
+    pub fn cause(&self) -> Cause
+        ensures { result ≡ self.now.cause }
+    {
+        self.cause
+    }
+
+    /// The object in which the member stands, or is missing.
+    pub fn within(&self) -> Within
+        ensures { within_view result ≡ self.now.within }
+    {
+        self.within
+    }
+
+    /// The name of the member, with JSON escapes undone.
+    pub fn name(&self) -> &str
+        ensures { result.now ≡ self.now.name }
+    {
+        self.name.as_str()
+    }
+}
+
+/// The name of a rule.
+#[derive(Drop)]
+pub struct RuleName {
+    text: String,
+}
+
+impl Model for RuleName {
+    ghost use Rattle.std.specs.Prelude.{ℕ, List, string_bytes};
+
+    ghost Value = { List ℕ };
+
+    ghost view = { λ n. string_bytes n.text };
+}
+
+impl RuleName {
+    /// This name. Refused where an allocation was.
+    pub(crate) fn new(alloc: Global, text: &str) -> Result<RuleName, AllocError>
+        ensures { IfOk result (λ n. n ≡ text.now) }
+    {
+        let text = String::from_str(alloc, text)?;
+        Ok(RuleName { text })
+    }
+
+    /// The name, with JSON escapes undone.
+    pub fn text(&self) -> &str
+        ensures { result.now ≡ self.now }
+    {
+        self.text.as_str()
+    }
+}
+
+/// Why the document of a service is refused.
+#[derive(Drop)]
+pub enum ServiceFault {
+    /// An allocation of memory was refused.
+    OutOfMemory,
+    /// There are more than 4,194,304 octets.
+    TooLong,
+    /// The octets are no JSON text in UTF-8, or its value is no object.
+    Json,
+    /// A name stands twice in one object, at any depth.
+    NameTwice,
+    /// A member is refused, or is missing.
+    Member(FaultAt),
+    /// The entry of this number is no object.
+    EntryKind(usize),
+    /// A member of the entry of this number is refused, or is missing.
+    Entry(usize, FaultAt),
+    /// The policy of the entry of this number is refused.
+    Policy(usize, PolicyFault),
+    /// Not exactly one of `set`, `pem`, `secret`, `file`, `url` and `discover` stands in the keys of the entry of this number.
+    Together(usize),
+    /// The key set of the entry of this number is refused.
+    Keys(usize, KeysFault),
+    /// No key of the entry of this number can be used by an algorithm of its policy.
+    NoUsableKey(usize),
+    /// The secret of the entry of this number is shorter than HMAC by an algorithm of its policy asks for.
+    ShortSecret(usize),
+    /// The keys of the entry of this number aren't at a URL of `https`, or of `http` where that is allowed.
+    Url(usize),
+    /// The policy of the entry of this number names no issuer, and there are several entries, or its keys are at a URL; or they are found by metadata,
+    /// and it doesn't name one alone.
+    Issuer(usize),
+    /// The policy of the entry of this number names an issuer that an earlier one names.
+    IssuerTwice(usize),
+    /// The policy of the entry of this number allows HMAC, and its keys are public.
+    NotPublic(usize),
+    /// The rule of this name is refused.
+    Rule(RuleName, AccessFault),
+}
+
+impl ServiceFault {
+    /// A member of an entry is refused.
+    pub(crate) fn entry(alloc: Global, number: usize, fault: Found<'_>) -> ServiceFault
+        ensures { result ≢ ServiceFault.OutOfMemory → result ≡ ServiceFault.Entry number (found fault.entry) }
+    {
+        match FaultAt::new(alloc, fault) {
+            Ok(fault) => ServiceFault::Entry(number, fault),
+            Err(_) => ServiceFault::OutOfMemory,
+        }
+    }
+
+    /// A member is refused.
+    pub(crate) fn member(alloc: Global, fault: Found<'_>) -> ServiceFault
+        ensures { result ≢ ServiceFault.OutOfMemory → result ≡ ServiceFault.Member (found fault.entry) }
+    {
+        match FaultAt::new(alloc, fault) {
+            Ok(fault) => ServiceFault::Member(fault),
+            Err(_) => ServiceFault::OutOfMemory,
+        }
+    }
+}
+
+impl<T: Drop> From<AllocFailed<T>> for ServiceFault {
+    ghost from_gives = { λ _ e. e ≡ OutOfMemory };
+
+    fn from(_error: AllocFailed<T>) -> ServiceFault {
+        ServiceFault::OutOfMemory
+    }
+}
+
+impl From<AllocError> for ServiceFault {
+    ghost from_gives = { λ _ e. e ≡ OutOfMemory };
+
+    fn from(_error: AllocError) -> ServiceFault {
+        ServiceFault::OutOfMemory
+    }
+}

@@ -1,0 +1,157 @@
+//! The keys that stand in the document, and the URL of those that don't.
+
+ghost use Rattle.std.specs.Prelude.{◌≡◌, false, option_map, slice_get};
+ghost use Rattle.std.specs.List.{list_any};
+ghost use Rattle.std.specs.Option.{option_map_or};
+ghost use Rattle.jwt_mac.specs.Algorithm.{is_hmac_alg};
+ghost use Rattle.jwt_policy.specs.Eligible.{is_for};
+ghost use Rattle.jwt_keys.specs.KeySets.{key_set};
+ghost use Rattle.jwt_keys.specs.Views.{key_parts};
+ghost use Rattle.jwt_text.specs.Answers.{Answers};
+ghost use Rattle.jwt_document.specs.Given.{is_usable_for, has_usable, is_short, set_keys, secret_fault, url_fault, keys_of};
+
+use crate::entries::Source;
+use crate::fault::ServiceFault;
+use jwt_keys::{Key, KeySet, KeysFault};
+use jwt_mac::Alg;
+use jwt_policy::{Policy, is_for};
+use jwt_request::urls::url_of;
+use jwt_text::ObjectRef;
+use std::alloc::Global;
+
+/// Whether the key is for one of these algorithms.
+fn is_for_some(algs: &[Alg], key: &Key) -> bool
+    ensures { result ≡ list_any (is_for (key_parts key.now)) algs.now }
+{
+    for alg in algs {
+        if is_for(key, *alg) {
+            return true;
+        }
+    }
+    false
+}
+
+/// Whether the key of this number verifies by one of these algorithms.
+fn is_usable_at(algs: &[Alg], keys: &KeySet, number: u32) -> bool
+    ensures { result ≡ option_map_or (is_usable_for algs.now) (slice_get (key_set keys.now).keys number) false }
+{
+    match keys.key(number) {
+        Some(key) => key.permits("verify") && is_for_some(algs, key),
+        None => false,
+    }
+}
+
+/// Whether one of the keys verifies by one of these algorithms.
+#[tactic(auto, using(std::proofs::lemmas::List::at_drop_more, std::proofs::lemmas::List::at_drop_all))]
+fn has_usable(algs: &[Alg], keys: &KeySet) -> bool
+    ensures { result ≡ has_usable algs.now (key_set keys.now).keys }
+{
+    for number in 0..keys.len() {
+        if is_usable_at(algs, keys, number) {
+            return true;
+        }
+    }
+    false
+}
+
+/// Whether an algorithm is HMAC that asks for a secret of more octets than so many.
+fn is_short(size: usize, algs: &[Alg]) -> bool
+    ensures { result ≡ list_any (is_short size) algs.now }
+{
+    for alg in algs {
+        if size < alg.digest() as usize {
+            return true;
+        }
+    }
+    false
+}
+
+/// Whether one of these is HMAC.
+pub(crate) fn any_hmac(algs: &[Alg]) -> bool
+    ensures { result ≡ list_any is_hmac_alg algs.now }
+{
+    for alg in algs {
+        if alg.is_hmac() {
+            return true;
+        }
+    }
+    false
+}
+
+/// The keys of a set, of which one has to be of use.
+fn set_keys(
+    alloc: Global,
+    number: usize,
+    algs: &[Alg],
+    members: &ObjectRef<'_>,
+) -> Result<Option<KeySet>, ServiceFault>
+    ensures { Answers ServiceFault.OutOfMemory (option_map key_set) result (set_keys number algs.now members.now) }
+{
+    let keys = match KeySet::of_members(alloc, members) {
+        Ok(keys) => keys,
+        Err(KeysFault::OutOfMemory) => return Err(ServiceFault::OutOfMemory),
+        Err(fault) => return Err(ServiceFault::Keys(number, fault)),
+    };
+    if has_usable(algs, &keys) {
+        Ok(Some(keys))
+    } else {
+        Err(ServiceFault::NoUsableKey(number))
+    }
+}
+
+/// Why a secret isn't one for these algorithms.
+fn secret_fault(number: usize, algs: &[Alg], secret: &str) -> Option<ServiceFault>
+    ensures { result ≡ secret_fault number algs.now secret.now }
+{
+    if !any_hmac(algs) {
+        Some(ServiceFault::NoUsableKey(number))
+    } else if is_short(secret.len(), algs) {
+        Some(ServiceFault::ShortSecret(number))
+    } else {
+        None
+    }
+}
+
+/// Why keys aren't fetched from a URL.
+fn url_fault(number: usize, http: bool, url: &str) -> Option<ServiceFault>
+    ensures { result ≡ url_fault number http url.now }
+{
+    match url_of(url.as_bytes(), http) {
+        Some(_) => None,
+        None => Some(ServiceFault::Url(number)),
+    }
+}
+
+/// The keys of an entry where they stand in the document as a set.
+pub(crate) fn keys_of(
+    alloc: Global,
+    number: usize,
+    policy: &Policy,
+    members: &ObjectRef<'_>,
+    source: Source,
+) -> Result<Option<KeySet>, ServiceFault>
+    ensures { Answers ServiceFault.OutOfMemory (option_map key_set) result
+        (keys_of number policy.now members.now source) }
+{
+    match source {
+        Source::Set => match members.object("set") {
+            Some(set) => set_keys(alloc, number, policy.algs(), &set),
+            None => Err(ServiceFault::EntryKind(number)),
+        },
+        Source::Secret => match members.text("secret") {
+            Some(secret) => match secret_fault(number, policy.algs(), secret) {
+                Some(fault) => Err(fault),
+                None => Ok(None),
+            },
+            None => Err(ServiceFault::EntryKind(number)),
+        },
+        Source::Url => match members.text("url") {
+            Some(url) => match url_fault(number, members.flag("http").unwrap_or(false), url) {
+                Some(fault) => Err(fault),
+                None => Ok(None),
+            },
+            None => Err(ServiceFault::EntryKind(number)),
+        },
+        _ => Ok(None),
+    }
+}

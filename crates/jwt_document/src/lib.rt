@@ -1,0 +1,20 @@
+//! The document of a service: one JSON text that says what a service asks of all requests.
+#![tactic(auto)]
+
+mod closed;
+mod document;
+mod entries;
+mod fault;
+mod given;
+mod needs;
+mod rows;
+mod rules;
+mod tables;
+mod together;
+mod values;
+
+pub use document::Document;
+pub use entries::{Entry, Source};
+pub use fault::{FaultAt, RuleName, ServiceFault};
+pub use rows::{Cause, Within};
+pub use rules::NamedRule;
