@@ -63,6 +63,22 @@ pub use Rattle.jwt_possession.specs.once.Marks as OnceMarks
 pub use Rattle.jwt_possession.specs.once.Steps as OnceSteps
 pub use Rattle.jwt_possession.specs.declared.once.accepted.Lack.TheVariants as LackVariants
 pub use Rattle.jwt_possession.specs.declared.once.once.Taken.TheVariants as TakenVariants
+pub use Rattle.jwt_request.specs.Replies
+pub use Rattle.jwt_service.specs.Admission
+pub use Rattle.jwt_service.specs.Asking
+pub use Rattle.jwt_service.specs.Expecting
+pub use Rattle.jwt_service.specs.Issuers
+pub use Rattle.jwt_service.specs.Judged
+pub use Rattle.jwt_service.specs.Laws as ServiceLaws
+pub use Rattle.jwt_service.specs.Paths as ServicePaths
+pub use Rattle.jwt_service.specs.Plain as PlainService
+pub use Rattle.jwt_service.specs.Proving
+pub use Rattle.jwt_service.specs.Reply as ServiceReply
+pub use Rattle.jwt_service.specs.Rule as ServiceRule
+pub use Rattle.jwt_service.specs.Settled
+pub use Rattle.jwt_service.specs.Shown as ServiceShown
+pub use Rattle.jwt_service.specs.Taking
+pub use Rattle.jwt_service.specs.Unshown
 pub use Rattle.jwt_issue.specs.ClaimSets
 pub use Rattle.jwt_issue.specs.FaultNames as IssueFaultNames
 pub use Rattle.jwt_issue.specs.Issued

@@ -22,9 +22,12 @@
 //! once; [`Nonces`] are nonces by time. [`first_unshown`] says whether each way in which a token is bound, to a key or to a client's certificate (RFC 8705), was
 //! [`Shown`]: ask it of each token, a bearer's too.
 //!
+//! All of it is one question in a service: [`admit`] says whether a [`Service`] lets a request through, a [`Call`], and by which claims; else [`Admission::reply`] is what
+//! is answered to it. [`decide`] and [`Passed::settle`] are its two halves, for a store that several processes share.
+//!
 //! Each other name here is that of one of the libraries below: `jwt_text`, `jwt_mac`, `jwt_keys`, `jwt_jws`, `jwt_policy`, `jwt_access`,
-//! `jwt_verify`, `jwt_memory`, `jwt_possession`, `jwt_issue`, `jwt_built_in`, `jwt_rsa`, `ecdsa` and `jwt_ed25519`. Their modules `laws` stand
-//! here as `access_laws`, `expected_laws`, `token_laws`, of issuing, `memory_laws`, `once_laws`, `possession_laws` and `verdict_laws`.
+//! `jwt_verify`, `jwt_memory`, `jwt_possession`, `jwt_request` (whose `Outcome` is [`RequestOutcome`] here), `jwt_service`, `jwt_issue`, `jwt_built_in`, `jwt_rsa`, `ecdsa` and `jwt_ed25519`. Their modules `laws` stand
+//! here as `access_laws`, `expected_laws`, `token_laws`, of issuing, `memory_laws`, `once_laws`, `possession_laws`, `service_laws` and `verdict_laws`.
 #![tactic(auto)]
 
 mod remembering;
@@ -56,6 +59,13 @@ pub use jwt_possession::{
     certificate_holds, first_unshown, has_agreed_path, judge_proof, normal_uri,
 };
 
+// One question a request.
+pub use jwt_request::{Challenge, Outcome as RequestOutcome, Reply, Scheme, Schemes, Texts};
+pub use jwt_service::{
+    Admission, AskingFault, Books, Call, Certificates, Issuer, NamedRule, Passed, Proofs,
+    ProvingFault, Refusal, Service, admit, decide,
+};
+
 // Judging the same token many times.
 pub use jwt_memory::{Basis, Outcome};
 pub use remembering::Remembering;
@@ -82,4 +92,5 @@ pub use jwt_issue::laws as token_laws;
 pub use jwt_memory::laws as memory_laws;
 pub use jwt_possession::laws as possession_laws;
 pub use jwt_possession::once::laws as once_laws;
+pub use jwt_service::laws as service_laws;
 pub use jwt_verify::laws as verdict_laws;

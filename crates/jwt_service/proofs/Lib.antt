@@ -1,9 +1,13 @@
 -- ---- For admitting.rt
-pub mod Verdicts
+pub mod Steps
+-- ---- For asking.rt
+pub mod Asked
 -- ---- For expecting.rt
 pub mod Expectations
 -- ---- For issuers.rt
 pub mod Choices
+-- ---- For judging.rt
+pub mod Verdicts
 -- ---- For laws.rt
 pub mod OneRequest
 pub mod OneAnswer

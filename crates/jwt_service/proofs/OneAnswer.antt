@@ -22,7 +22,7 @@ use Rattle.jwt_service.specs.Admission.{Subject, IsPassed, IsAdmitted, IsAdmissi
 use Rattle.jwt_service.specs.Laws.{HadMemory}
 use Rattle.jwt_service.proofs.Below.{Below}
 use Rattle.jwt_service.proofs.OneEntry.{one_token_entry}
-use Rattle.jwt_service.proofs.OneRequest.{same_subject, same_held, subject_of, accepted_in, passed_is_not_refused}
+use Rattle.jwt_service.proofs.OneRequest.{same_subject, same_held, subject_in, accepted_in, passed_is_not_refused}
 
 -- ---- a memory has one answer
 
@@ -63,7 +63,7 @@ pub record IsSamePassed (p q : Passed) : Type 0 where
 
 one_passed : Below → (service : Service) (verifiers : List Meaning) (call : Call) (p q : Passed) → IsPassed service verifiers call p → IsPassed service verifiers call q → IsSamePassed p q
 one_passed below service verifiers call p q h g =
-    let same = same_subject below service verifiers call (subject_of p h.token) (subject_of q g.token) (accepted_in service verifiers call p h) (accepted_in service verifiers call q g) in
+    let same = same_subject below service verifiers call (subject_in p h.token h.alg) (subject_in q g.token g.alg) (accepted_in service verifiers call p h) (accepted_in service verifiers call q g) in
     let held = subst (λ (s : Subject). IsHeld service verifiers call s.scheme s.token s.claims g.possession) same g.before.before.held in
     let pair = same_held below service verifiers call p.scheme h.token p.claims h.possession g.possession h.before.before.held held in
     let there = subst (λ (s : Subject). IsTokenEntry service s.issuer call s.claims (Ok q.token)) same g.token_entry in

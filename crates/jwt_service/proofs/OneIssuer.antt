@@ -26,6 +26,7 @@ of_one_issuer service verifiers call old new claims admitted =
       issuer = passed.issuer;
       among = among service admitted.holds.token passed.issuer accepted.chosen;
       token = admitted.holds.token;
+      alg = admitted.holds.alg;
       accepted = accepted.accepted;
       named = accepted.accepted.2.hold.issuer;
     } in

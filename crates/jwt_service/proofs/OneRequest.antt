@@ -5,12 +5,16 @@ use Rattle.std.specs.Prelude.{option_map}
 use Rattle.serde_json.specs.Data.{Members}
 use Rattle.jwt_text.specs.Members.{text_at}
 use Rattle.jwt_mac.specs.Verifying.{Meaning}
+use Rattle.jwt_mac.specs.declared.algorithm.Alg.{Alg}
+use Rattle.jwt_jws.specs.Token.{Token}
+use Rattle.jwt_policy.specs.Settings.{Settings}
+use Rattle.jwt_access.specs.declared.denial.Denial.{Denial}
 use Rattle.jwt_request.specs.declared.scheme.Scheme.{Scheme}
 use Rattle.jwt_request.specs.declared.scheme.Scheme.TheVariants.{Bearer, Dpop}
 use Rattle.jwt_request.specs.declared.scheme.Schemes.{Schemes}
 use Rattle.jwt_request.specs.declared.credentials.Credentials.TheVariants as found
 use Rattle.jwt_request.specs.Spelled.{IsFound}
-use Rattle.jwt_verify.specs.Accepted.{IsAccepted as IsAcceptedBy, HasOneVerdict}
+use Rattle.jwt_verify.specs.Accepted.{IsAccepted as IsAcceptedBy, HasOneVerdict, TellsTokens}
 use Rattle.jwt_verify.specs.Reports.{FoundMemory, terms}
 use Rattle.jwt_verify.specs.Verdict.{Terms}
 use Rattle.jwt_verify.specs.declared.report.Fault.{Fault}
@@ -31,16 +35,20 @@ use Rattle.jwt_service.specs.declared.call.Call.{Call}
 use Rattle.jwt_service.specs.declared.service.Issuer.{Issuer}
 use Rattle.jwt_service.specs.declared.service.Service.{Service}
 use Rattle.jwt_service.specs.declared.service.Proofs.{Proofs}
+use Rattle.jwt_service.specs.declared.service.NamedRule.{NamedRule}
+use Rattle.jwt_service.specs.declared.asking.AskingFault.{AskingFault}
+use Rattle.jwt_service.specs.declared.asking.AskingFault.TheVariants.{NoMoment, NoRule, Unasked}
 use Rattle.jwt_service.specs.declared.shown.Shown.TheVariants as shown
 use Rattle.jwt_service.specs.declared.proving.ProvingFault.{ProvingFault}
 use Rattle.jwt_service.specs.declared.proving.ProvingFault.TheVariants.{NotOne, Path, Proof, Nonce}
 use Rattle.jwt_service.specs.declared.proving.ProvingFault.TheVariants as proving
 use Rattle.jwt_service.specs.declared.admission.Passed.{Passed}
 use Rattle.jwt_service.specs.declared.admission.Refusal.{Refusal}
-use Rattle.jwt_service.specs.declared.admission.Refusal.TheVariants.{Several, Absent, Malformed, Refused, Denied, Unexpected, Unproved, Unshown, Lacking, OutOfMemory}
+use Rattle.jwt_service.specs.declared.admission.Refusal.TheVariants.{Misasked, Several, Absent, Malformed, Refused, Denied, Unexpected, Unproved, Unshown, Lacking, OutOfMemory}
 use Rattle.jwt_service.specs.Shown.{CarriesToken, Shows, IsShown, schemes_of, values_of}
-use Rattle.jwt_service.specs.Judged.{AcceptsToken, RefusesToken}
-use Rattle.jwt_service.specs.Rule.{MeetsRule}
+use Rattle.jwt_service.specs.Asking.{IsAsked, IsMisasked}
+use Rattle.jwt_service.specs.Judged.{alg_at, IsByAlg, AcceptsToken, RefusesToken}
+use Rattle.jwt_service.specs.Rule.{Meets, MeetsRule, IsDenied}
 use Rattle.jwt_service.specs.Proving.{Proves, Asks, IsNoProof, HasNonce, IsBeside, IsHeld, IsUnproved}
 use Rattle.jwt_service.specs.Unshown.{HasUnshown}
 use Rattle.jwt_service.specs.Taking.{IsProofEntry, IsTokenEntry}
@@ -49,6 +57,7 @@ use Rattle.jwt_service.specs.Issuers.{IsChosen}
 use Rattle.jwt_service.specs.Laws.{IsOfProof, IsOfRequest}
 use Rattle.jwt_service.proofs.Below.{Below}
 use Rattle.jwt_service.proofs.Choices.{one_chosen}
+use Rattle.jwt_service.proofs.Asked.{one_rule}
 use Rattle.jwt_service.proofs.Bound.{one_unshown}
 use Rattle.jwt_service.proofs.OneEntry.{one_proof_entry, one_token_entry}
 
@@ -91,41 +100,51 @@ not_malformed below schemes values scheme other token (value, is, one) (value', 
 -- ---- one verdict
 
 one_claims : HasOneVerdict → (t : Terms) (octets : List ℕ) (ceiling s k s' k' : ℕ) (claims others : Members)
-    → IsAcceptedBy t octets ceiling s k claims → IsAcceptedBy t octets ceiling s' k' others → others ≡ claims
+    → IsAcceptedBy t octets ceiling s k claims → IsAcceptedBy t octets ceiling s' k' others → (others ≡ claims) × (s' ≡ s)
 one_claims law t octets ceiling s k s' k' claims others one other =
     let told = law t octets ceiling in
     let both : verdict.Accepted s' k' others ≡ verdict.Accepted s k claims = told.2 (verdict.Accepted s' k' others) other ∙ sym (told.2 (verdict.Accepted s k claims) one) in
+    (cc, cc)
+
+one_alg : TellsTokens → (policy : Settings) (octets : List ℕ) (signature other : ℕ) (a b : Alg) → other ≡ signature → IsByAlg policy octets signature a → IsByAlg policy octets other b → b ≡ a
+one_alg law policy octets signature other a b same (token, read, is) (token', read', is') =
+    let tokens : Ok token' ≡ Ok token = sym ((law policy octets token').1 read') ∙ (law policy octets token).1 read in
+    let one : token' ≡ token = cc in
+    let both : Some b ≡ Some a = sym is' ∙ ap (λ (n : ℕ). alg_at token' n) same ∙ ap (λ (t : Token). alg_at t signature) one ∙ is in
     cc
 
-not_refused : Below → (issuer : Issuer) (verifiers : List Meaning) (call : Call) (token : List ℕ) (claims : Members) (fault : Fault)
-    → AcceptsToken issuer verifiers call token claims → RefusesToken issuer verifiers call token fault → FoundMemory (verdict.Refused fault) → ⊥
-not_refused below issuer verifiers call token claims fault (s, k, accepted) refused memory =
+not_refused : Below → (issuer : Issuer) (verifiers : List Meaning) (call : Call) (token : List ℕ) (claims : Members) (alg : Alg) (fault : Fault)
+    → AcceptsToken issuer verifiers call token claims alg → RefusesToken issuer verifiers call token fault → FoundMemory (verdict.Refused fault) → ⊥
+not_refused below issuer verifiers call token claims alg fault (s, k, accepted, by) refused memory =
     let told = below.verdict (terms issuer.policy.now issuer.keys.now call.moment verifiers) token issuer.policy.now.run.work in
     let both : verdict.Refused fault ≡ verdict.Accepted s k claims = told.2 (verdict.Refused fault) (refused memory) ∙ sym (told.2 (verdict.Accepted s k claims) accepted) in
     cc
 
-same_claims : Below → (issuer : Issuer) (verifiers : List Meaning) (call : Call) (token : List ℕ) (claims others : Members)
-    → AcceptsToken issuer verifiers call token claims → AcceptsToken issuer verifiers call token others → others ≡ claims
-same_claims below issuer verifiers call token claims others (s, k, one) (s', k', other) =
-    one_claims below.verdict (terms issuer.policy.now issuer.keys.now call.moment verifiers) token issuer.policy.now.run.work s k s' k' claims others one other
+same_claims : Below → (issuer : Issuer) (verifiers : List Meaning) (call : Call) (token : List ℕ) (claims others : Members) (a b : Alg)
+    → AcceptsToken issuer verifiers call token claims a → AcceptsToken issuer verifiers call token others b → (others ≡ claims) × (b ≡ a)
+same_claims below issuer verifiers call token claims others a b (s, k, one, by) (s', k', other, by') =
+    let same = one_claims below.verdict (terms issuer.policy.now issuer.keys.now call.moment verifiers) token issuer.policy.now.run.work s k s' k' claims others one other in
+    (same.0, one_alg below.tokens issuer.policy.now token s s' a b same.1 by by')
 
 same_issuer : Below → (service : Service) (call : Call) (a b : Scheme) (t u : List ℕ) (i j : Issuer) → IsToken service call a t → IsChosen service t i → IsToken service call b u → IsChosen service u j
     → (u ≡ t) × (b ≡ a) × (j ≡ i)
 same_issuer below service call a b t u i j shows chosen shows' chosen' =
-    let same = same_token below (schemes_of service) (values_of call) a b t u shows shows' in
+    let same = same_token below (schemes_of service) (values_of call) a b t u shows.1 shows'.1 in
     (same.1, same.0, one_chosen service t i j chosen (subst (λ (o : List ℕ). IsChosen service o j) same.1 chosen'))
 
 pub same_subject : Below → (service : Service) (verifiers : List Meaning) (call : Call) (a b : Subject) → IsAccepted service verifiers call a → IsAccepted service verifiers call b → b ≡ a
 same_subject below service verifiers call a b one other =
     let same = same_issuer below service call a.scheme b.scheme a.token b.token a.issuer b.issuer one.shown one.chosen other.shown other.chosen in
-    let here = subst (λ (o : List ℕ). AcceptsToken b.issuer verifiers call o b.claims) same.0 other.accepted in
-    let there = subst (λ (x : Issuer). AcceptsToken x verifiers call a.token b.claims) same.2 here in
+    let here = subst (λ (o : List ℕ). AcceptsToken b.issuer verifiers call o b.claims b.alg) same.0 other.accepted in
+    let there = subst (λ (x : Issuer). AcceptsToken x verifiers call a.token b.claims b.alg) same.2 here in
+    let verdict = same_claims below a.issuer verifiers call a.token a.claims b.claims a.alg b.alg one.accepted there in
     let token : b.token ≡ a.token = same.0 in
     let scheme : b.scheme ≡ a.scheme = same.1 in
     let issuer : b.issuer ≡ a.issuer = same.2 in
-    let claims : b.claims ≡ a.claims = same_claims below a.issuer verifiers call a.token a.claims b.claims one.accepted there in
-    let its : Subject = record { scheme = a.scheme; token = a.token; issuer = a.issuer; claims = a.claims } in
-    let others : Subject = record { scheme = b.scheme; token = b.token; issuer = b.issuer; claims = b.claims } in
+    let claims : b.claims ≡ a.claims = verdict.0 in
+    let alg : b.alg ≡ a.alg = verdict.1 in
+    let its : Subject = record { scheme = a.scheme; token = a.token; issuer = a.issuer; claims = a.claims; alg = a.alg } in
+    let others : Subject = record { scheme = b.scheme; token = b.token; issuer = b.issuer; claims = b.claims; alg = b.alg } in
     let all : others ≡ its = cc in
     all
 
@@ -215,46 +234,58 @@ same_held below service verifiers call scheme token claims (Some p) (Some q) (pr
     let times : (proved q).times ≡ (proved p).times = there.times ∙ ap (λ (m : Members). proof_times proofs.policy.now m) signed.1 ∙ sym proves.times in
     alike p q thumbprint signed.1 owner times
 
+-- ---- what the program asks
+
+asked_right : (service : Service) (call : Call) → IsAsked service call → (fault : AskingFault) → ¬ IsMisasked service call fault
+asked_right service call asked NoMoment early = let both : true ≡ false = sym early ∙ asked.moment in cc
+asked_right service call asked NoRule none = none asked.rule.0 asked.rule.1
+asked_right service call asked (Unasked name) (among, not) = let both : true ≡ false = sym (asked.expected name among) ∙ not in cc
+
+not_denied : (service : Service) (issuer : Issuer) (call : Call) (claims : Members) (denial : Denial) → MeetsRule service issuer call claims → ¬ IsDenied service issuer call claims denial
+not_denied service issuer call claims denial (rule, is, meets) (other, is', denied) =
+    denied.met_not (subst (λ (r : Option NamedRule). Meets r issuer call claims) (sym (one_rule service call rule other is is')) meets)
+
 -- ---- all causes
 
-abbrev pub subject_of : Passed → List ℕ → Subject
-subject_of passed token = record { scheme = passed.scheme; token = token; issuer = passed.issuer; claims = passed.claims }
+abbrev pub subject_in : Passed → List ℕ → Alg → Subject
+subject_in passed token alg = record { scheme = passed.scheme; token = token; issuer = passed.issuer; claims = passed.claims; alg = alg }
 
-pub accepted_in : (service : Service) (verifiers : List Meaning) (call : Call) (passed : Passed) (h : IsPassed service verifiers call passed) → IsAccepted service verifiers call (subject_of passed h.token)
+pub accepted_in : (service : Service) (verifiers : List Meaning) (call : Call) (passed : Passed) (h : IsPassed service verifiers call passed) → IsAccepted service verifiers call (subject_in passed h.token h.alg)
 accepted_in service verifiers call passed h = h.before.before.before.before.before
 
 pub passed_is_not_refused : Below → (service : Service) (verifiers : List Meaning) (call : Call) (passed : Passed) (refusal : Refusal)
     → IsPassed service verifiers call passed → IsOfRequest refusal → ¬ IsRefusal service verifiers call refusal
+passed_is_not_refused below service verifiers call passed (Misasked fault) h memory misasked = asked_right service call (accepted_in service verifiers call passed h).shown.0 fault misasked
 passed_is_not_refused below service verifiers call passed Several h memory several =
-    not_several (schemes_of service) (values_of call) passed.scheme h.token (accepted_in service verifiers call passed h).shown several
+    not_several (schemes_of service) (values_of call) passed.scheme h.token (accepted_in service verifiers call passed h).shown.1 several.1
 passed_is_not_refused below service verifiers call passed Absent h memory absent =
-    not_absent below (schemes_of service) (values_of call) passed.scheme h.token (accepted_in service verifiers call passed h).shown absent
+    not_absent below (schemes_of service) (values_of call) passed.scheme h.token (accepted_in service verifiers call passed h).shown.1 absent.1
 passed_is_not_refused below service verifiers call passed (Malformed scheme) h memory malformed =
-    not_malformed below (schemes_of service) (values_of call) passed.scheme scheme h.token (accepted_in service verifiers call passed h).shown malformed
+    not_malformed below (schemes_of service) (values_of call) passed.scheme scheme h.token (accepted_in service verifiers call passed h).shown.1 malformed.1
 passed_is_not_refused below service verifiers call passed (Refused scheme fault) h memory (token', issuer', shows, chosen, refuses) =
     let accepted = accepted_in service verifiers call passed h in
     let same = same_issuer below service call passed.scheme scheme h.token token' passed.issuer issuer' accepted.shown accepted.chosen shows chosen in
     let here = subst (λ (o : List ℕ). RefusesToken issuer' verifiers call o fault) same.0 refuses in
-    not_refused below passed.issuer verifiers call h.token passed.claims fault accepted.accepted (subst (λ (i : Issuer). RefusesToken i verifiers call h.token fault) same.2 here) memory
+    not_refused below passed.issuer verifiers call h.token passed.claims h.alg fault accepted.accepted (subst (λ (i : Issuer). RefusesToken i verifiers call h.token fault) same.2 here) memory
 passed_is_not_refused below service verifiers call passed (Denied scheme denial) h memory (it, is, accepted, denied) =
-    let same = same_subject below service verifiers call (subject_of passed h.token) it (accepted_in service verifiers call passed h) accepted in
-    subst (λ (s : Subject). MeetsRule service s.issuer call s.claims → ⊥) same denied.met_not h.before.before.before.before.rule
-passed_is_not_refused below service verifiers call passed (Unexpected scheme unmet) h memory (it, is, granted, (alg, first)) =
-    let same = same_subject below service verifiers call (subject_of passed h.token) it (accepted_in service verifiers call passed h) granted.before in
-    below.unmet alg passed.claims call.expected.now unmet (subst (λ (s : Subject). IsFirstUnmet alg s.claims call.expected.now unmet) same first) (h.before.before.before.expected alg)
+    let same = same_subject below service verifiers call (subject_in passed h.token h.alg) it (accepted_in service verifiers call passed h) accepted in
+    not_denied service passed.issuer call passed.claims denial h.before.before.before.before.rule (subst (λ (s : Subject). IsDenied service s.issuer call s.claims denial) same denied)
+passed_is_not_refused below service verifiers call passed (Unexpected scheme unmet) h memory (it, is, granted, first) =
+    let same = same_subject below service verifiers call (subject_in passed h.token h.alg) it (accepted_in service verifiers call passed h) granted.before in
+    below.unmet h.alg passed.claims call.expected.now unmet (subst (λ (s : Subject). IsFirstUnmet s.alg s.claims call.expected.now unmet) same first) h.before.before.before.expected
 passed_is_not_refused below service verifiers call passed (Unproved fault) h memory (it, expected, unproved) =
-    let same = same_subject below service verifiers call (subject_of passed h.token) it (accepted_in service verifiers call passed h) expected.before.before in
+    let same = same_subject below service verifiers call (subject_in passed h.token h.alg) it (accepted_in service verifiers call passed h) expected.before.before in
     not_unproved below service verifiers call passed.scheme h.token passed.claims h.possession fault h.before.before.held
     (subst (λ (s : Subject). IsUnproved service verifiers call s.scheme s.token s.claims fault) same unproved) memory
 passed_is_not_refused below service verifiers call passed (Unshown scheme fault) h memory (it, possession', is, proves, unshown) =
-    let same = same_subject below service verifiers call (subject_of passed h.token) it (accepted_in service verifiers call passed h) proves.before.before.before in
+    let same = same_subject below service verifiers call (subject_in passed h.token h.alg) it (accepted_in service verifiers call passed h) proves.before.before.before in
     let held = subst (λ (s : Subject). IsHeld service verifiers call s.scheme s.token s.claims possession') same proves.held in
     let pair = same_held below service verifiers call passed.scheme h.token passed.claims h.possession possession' h.before.before.held held in
-    let there = subst (λ (s : Subject). HasUnshown call s.claims possession' (Some fault)) same unshown in
-    let both : Some fault ≡ None = one_unshown call passed.claims h.possession possession' None (Some fault) pair.key h.before.shown there in
+    let there = subst (λ (s : Subject). HasUnshown service call s.claims possession' (Some fault)) same unshown in
+    let both : Some fault ≡ None = one_unshown service call passed.claims h.possession possession' None (Some fault) pair.key h.before.shown there in
     cc
 passed_is_not_refused below service verifiers call passed (Lacking scheme lack) h memory (it, possession', is, bound, lacks) =
-    let same = same_subject below service verifiers call (subject_of passed h.token) it (accepted_in service verifiers call passed h) bound.before.before.before.before in
+    let same = same_subject below service verifiers call (subject_in passed h.token h.alg) it (accepted_in service verifiers call passed h) bound.before.before.before.before in
     let there = subst (λ (s : Subject). IsTokenEntry service s.issuer call s.claims (Err lack)) same lacks in
     let both : Err lack ≡ Ok passed.token = one_token_entry service.once passed.issuer call passed.claims (Ok passed.token) (Err lack) h.token_entry there in
     cc

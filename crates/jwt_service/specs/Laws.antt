@@ -3,6 +3,7 @@ use Rattle.std.specs.Prelude.{◌≡◌, ◌≢◌, ◌↔◌, ◌⊎◌, ℕ, L
 use Rattle.std.specs.List.{Contains}
 use Rattle.serde_json.specs.Data.{Members}
 use Rattle.jwt_mac.specs.Verifying.{Meaning}
+use Rattle.jwt_mac.specs.declared.algorithm.Alg.{Alg}
 use Rattle.jwt_text.specs.Members.{text_at}
 use Rattle.jwt_possession.specs.declared.once.accepted.Entry.{Entry}
 use Rattle.jwt_possession.specs.declared.once.once.Taken.{Taken}
@@ -62,7 +63,8 @@ pub record IsOfOneIssuer (service : Service) (verifiers : List Meaning) (call : 
   pub issuer : Issuer
   pub among : (issuer ≡ service.issuer) ⊎ Contains service.others.now issuer
   pub token : List ℕ
-  pub accepted : AcceptsToken issuer verifiers call token claims
+  pub alg : Alg
+  pub accepted : AcceptsToken issuer verifiers call token claims alg
   pub named : (issuer.policy.now.claims.issuers ≡ []) ⊎ ((name : List ℕ) × (text_at (codes "iss") claims ≡ Some name) × Contains issuer.policy.now.claims.issuers name)
 
 -- whatever is let through is of one issuer

@@ -1,12 +1,16 @@
 -- ---- What contracts of public functions cite, in reading order
 
+-- a service that asks nothing beside its issuer's policy
+pub mod Plain
+-- what the program itself has to ask by
+pub mod Asking
 -- the token that a request shows
 pub mod Shown
 -- the issuer by whose policy and keys a token is judged
 pub mod Issuers
 -- the verdict on the token that a request shows
 pub mod Judged
--- the access rule of a service
+-- the access rule of a call
 pub mod Rule
 -- what a call expects of claims
 pub mod Expecting

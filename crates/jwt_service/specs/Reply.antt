@@ -17,7 +17,7 @@ use Rattle.jwt_verify.specs.declared.report.Fault.TheVariants as fault
 use Rattle.jwt_service.specs.declared.admission.Admission.{Admission}
 use Rattle.jwt_service.specs.declared.admission.Admission.TheVariants as answer
 use Rattle.jwt_service.specs.declared.admission.Refusal.{Refusal}
-use Rattle.jwt_service.specs.declared.admission.Refusal.TheVariants.{Several, Absent, Malformed, Refused, Denied, Unexpected, Unproved, Unshown, Lacking, OutOfMemory}
+use Rattle.jwt_service.specs.declared.admission.Refusal.TheVariants.{Misasked, Several, Absent, Malformed, Refused, Denied, Unexpected, Unproved, Unshown, Lacking, OutOfMemory}
 use Rattle.jwt_service.specs.declared.proving.ProvingFault.{ProvingFault}
 use Rattle.jwt_service.specs.declared.proving.ProvingFault.TheVariants.{NotOne, Path, Proof, Nonce}
 use Rattle.jwt_service.specs.declared.proving.ProvingFault.TheVariants as proving
@@ -60,6 +60,8 @@ taken_outcome otherwise (Some _) = otherwise
 taken_outcome otherwise None = outcome.Unanswered
 
 abbrev pub refusal_outcome : Refusal → Outcome
+-- a mistake of the program, of which no client is told more
+refusal_outcome (Misasked it) = outcome.Unanswered
 refusal_outcome Several = outcome.Several
 refusal_outcome Absent = outcome.Absent
 refusal_outcome (Malformed scheme) = outcome.Malformed

@@ -3,6 +3,7 @@
 ghost use Rattle.std.specs.Prelude.{◌≡◌};
 ghost use Rattle.jwt_service.specs.Settled.{is_new, settled};
 
+use crate::asking::AskingFault;
 use crate::proving::ProvingFault;
 use crate::service::Issuer;
 use jwt_access::Denial;
@@ -16,6 +17,8 @@ use jwt_verify::Fault;
 /// Why a request isn't let through before anything is taken: the first cause in this order.
 #[derive(Drop)]
 pub enum Refusal<'s> {
+    /// The program doesn't ask as the service says that it has to; the request was not looked at.
+    Misasked(AskingFault<'s>),
     /// There are several headers `Authorization`.
     Several,
     /// No token is shown by a scheme that is taken.

@@ -15,7 +15,9 @@ pub struct Call<'a> {
     pub path: &'a str,
     /// The certificate by which the client proved to hold its key to whoever ended TLS, in DER.
     pub certificate: Option<&'a [u8]>,
-    /// What is expected of the token's claims by this call: texts. The algorithm of the signature isn't known here, by which a hash would be made.
+    /// The name of the service's access rule that the token's claims have to meet.
+    pub rule: Option<&'a str>,
+    /// What is expected of the token's claims by this call.
     pub expected: &'a [Expected<'a>],
     /// Seconds since 1970-01-01T00:00:00Z.
     pub moment: i64,

@@ -14,11 +14,13 @@
 
 mod admission;
 mod admitting;
+mod asking;
 mod books;
 mod call;
 mod entries;
 mod expecting;
 mod issuers;
+mod judging;
 pub mod laws;
 mod path;
 mod proving;
@@ -30,8 +32,9 @@ mod unshown;
 
 pub use admission::{Admission, Passed, Refusal};
 pub use admitting::{admit, decide};
+pub use asking::AskingFault;
 pub use books::Books;
 pub use call::Call;
 pub use proving::ProvingFault;
-pub use service::{Issuer, Proofs, Service};
+pub use service::{Certificates, Issuer, NamedRule, Proofs, Service};
 pub use shown::{Shown, shown_in};

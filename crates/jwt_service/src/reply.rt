@@ -81,6 +81,7 @@ impl<'s> Refusal<'s> {
         ensures { result ≡ refusal_outcome self.now }
     {
         match self {
+            Refusal::Misasked(_) => Outcome::Unanswered,
             Refusal::Several => Outcome::Several,
             Refusal::Absent => Outcome::Absent,
             Refusal::Malformed(_) => Outcome::Malformed,
@@ -104,7 +105,8 @@ impl<'s> Refusal<'s> {
             | Refusal::Unshown(scheme, _)
             | Refusal::Lacking(scheme, _) => Some(*scheme),
             Refusal::Unproved(_) => Some(Scheme::Dpop),
-            Refusal::Several | Refusal::Absent | Refusal::OutOfMemory => None,
+            Refusal::Misasked(_) | Refusal::Several | Refusal::Absent | Refusal::OutOfMemory =>
+                None,
         }
     }
 }

@@ -7,6 +7,8 @@ mod access;
 #[cfg(test)]
 mod asserted;
 #[cfg(test)]
+mod document;
+#[cfg(test)]
 mod door;
 #[cfg(test)]
 mod expected;
@@ -33,7 +35,9 @@ mod renewal;
 #[cfg(test)]
 mod request;
 #[cfg(test)]
-mod service;
+mod small_service;
+#[cfg(test)]
+mod sources;
 #[cfg(test)]
 mod text;
 #[cfg(test)]

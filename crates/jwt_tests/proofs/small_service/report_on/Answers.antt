@@ -1,7 +1,7 @@
 use Rattle.std.proofs.Common.{w64}
 use Rattle.std.proofs.lemmas.Int.{to_z-of_z}
 use Rattle.std.proofs.lemmas.Option.{IfSome_then}
-use Rattle.jwt_tests.proofs.service.report_on.Goals as goal
+use Rattle.jwt_tests.proofs.small_service.report_on.Goals as goal
 
 pub returns : goal.returns
 returns g c =
