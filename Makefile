@@ -217,6 +217,7 @@ drawn:
 	gate/lemmas.py --write
 	gate/layers.py --write
 	bench/picture
+	printf '//! The version of the program, and the kit that proves it, drawn by `make drawn`.\n\n/// What `jwt --version` prints.\npub const VERSION: &str = "jwt %s, proved with %s";\n' '$(VERSION)' "$$(rt version)" > crates/jwt_command/src/version.rt
 
 SECONDS = 20
 

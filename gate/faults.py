@@ -5,7 +5,7 @@
     gate/faults.py --write    draws it anew
 
 A new fault is a variant of its enum, written by hand, and its lines in the table. Drawn are: its name in the definitions and in the code of the enum's crate,
-its number in those of `jwt_handles`, the header's enum, bindings/c/fault_name.c, the tables of docs/FAULTS.md, the sentences of the command, and the messages of
+its number in those of `jwt_handles`, the header's enum, bindings/c/fault_name.c, the tables of docs/FAULTS.md, the sentences of the command, those on advice from docs/COMMAND.md, and the messages of
 Python and of Node, and the numbers that a caller has by itself. It ends with 'N passed, M failed', where a drawn file counts as one, and a fault as two.
 """
 import dataclasses, json, pathlib, re, sys
@@ -220,6 +220,19 @@ def rattle(_):
     return "\n".join(lines) + "\n"
 
 
+ADVICE = "| Advice | What it says | What to write |"
+
+
+def advice(_):
+    """The command's table of sentences about advice, from the table of docs/COMMAND.md."""
+    rows = re.findall(r"^\| (\w+) \| (.*) \| (.*) \|$", (TOP / "docs/COMMAND.md").read_text().partition(ADVICE)[2].partition("\n\n")[0], re.MULTILINE)
+    lines = ["//! What each advice says and what to write, drawn from docs/COMMAND.md by gate/faults.py.", ""]
+    lines += ["/// The advice by its name, with its sentence.", f"pub(crate) const ADVICE: [(&str, &str); {len(rows)}] = ["]
+    for name, says, write in rows:
+        lines += ["    (", f"        {json.dumps(name)},", f"        {json.dumps(f'{says}. Write {write}.', ensure_ascii=False)},", "    ),"]
+    return "\n".join([*lines, "];"]) + "\n"
+
+
 # Each drawn file with what draws it of its text.
 DRAWN = {
     "include/fowharimu.h": header,
@@ -228,6 +241,7 @@ DRAWN = {
     "bindings/python/src/fowharimu/_meanings.py": python,
     "bindings/node/meanings.js": node,
     "crates/jwt_output/src/reasons/sentences.rt": rattle,
+    "crates/jwt_output/src/reasons/advice.rt": advice,
 }
 # The numbers of faults that stand by themselves in a file: the constant, and what stands around its number.
 ALONE = [

@@ -20,7 +20,7 @@ VERSIONS = {
     "bindings/rust/Cargo.toml": r'^version = "(.*)"',
     "bindings/rust/fowharimu/Cargo.toml": r'\bversion = "([^"]*)"',
     "bindings/rust/fowharimu-http/Cargo.toml": r'(?:^|, )version = "([^"]*)"',
-    "crates/jwt_command/src/run.rt": r'"jwt (\S+), proved with',
+    "crates/jwt_command/src/version.rt": r'"jwt (\S+), proved with',
     "packaging/debian/changelog": r"\Afowharimu \((\S+)-\d+\)",
     "examples/gateway/go/go.mod": r"\bfowharimu v(\S+)",
 }

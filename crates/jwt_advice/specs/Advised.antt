@@ -5,19 +5,19 @@ use Rattle.std.specs.Option.{option_map_or}
 use Rattle.jwt_mac.specs.declared.algorithm.Alg.{Alg}
 use Rattle.jwt_mac.specs.Algorithm.{is_hmac_alg}
 use Rattle.jwt_mac.specs.Verifying.{Meaning}
-use Rattle.jwt_keys.specs.Keys.{KeyParts, has_name}
+use Rattle.jwt_keys.specs.Keys.{KeyParts, has_name, permits_of}
 use Rattle.jwt_policy.specs.declared.mode.Mode.{Mode}
 use Rattle.jwt_policy.specs.declared.mode.Mode.TheVariants as mode
 use Rattle.jwt_policy.specs.Settings.{Settings}
 use Rattle.jwt_policy.specs.Texts.{is_among, some_passes}
 use Rattle.jwt_advice.specs.Uses.{key_count, is_unused}
 use Rattle.jwt_advice.specs.Costs.{greatest_cost}
-use Rattle.jwt_advice.specs.RsaKeys.{is_refused_rsa}
+use Rattle.jwt_advice.specs.RsaKeys.{is_refused_rsa, is_small_rsa}
 use Rattle.jwt_advice.specs.RefusedKeys.{is_refused_ec, is_refused_okp}
-use Rattle.jwt_advice.specs.Secrets.{is_uniform, is_printable}
+use Rattle.jwt_advice.specs.Secrets.{is_uniform, is_printable, is_short}
 use Rattle.jwt_advice.specs.declared.costs.Cost.TheVariants.{Work, Calls}
 use Rattle.jwt_advice.specs.declared.advice.Advice.{Advice}
-use Rattle.jwt_advice.specs.declared.advice.Advice.TheVariants.{NoExp, NoIssuers, NoAudiences, NoTyp, MixedAlgs, UncheckedSignatures, AlgWithoutKey, NoKid, LowWork, LowCalls, ManyCalls, UnusedKey, KidTwice, UniformSecret, PrintableSecret, RefusedRsa, RefusedEc, RefusedOkp}
+use Rattle.jwt_advice.specs.declared.advice.Advice.TheVariants.{NoExp, NoIssuers, NoAudiences, NoTyp, MixedAlgs, UncheckedSignatures, AlgWithoutKey, NoKid, LowWork, LowCalls, ManyCalls, UnusedKey, KidTwice, UniformSecret, PrintableSecret, ShortSecret, SmallRsa, RefusedRsa, RefusedEc, RefusedOkp}
 
 -- ---- of a policy, whatever its keys
 
@@ -66,15 +66,25 @@ stands_twice keys name = nat_lt 1 (count_by (has_name name false) keys)
 abbrev pub is_twice : List KeyParts → KeyParts → Bool
 is_twice keys key = option_map_or (stands_twice keys) key.kid false
 
+abbrev pub concerns_signer : Advice → Settings → List Meaning → List KeyParts → KeyParts → Bool
+concerns_signer UnusedKey policy verifiers keys key = is_unused policy verifiers key
+concerns_signer KidTwice policy verifiers keys key = is_twice keys key
+concerns_signer UniformSecret policy verifiers keys key = is_uniform key.octets
+concerns_signer PrintableSecret policy verifiers keys key = is_printable key.octets
+concerns_signer ShortSecret policy verifiers keys key = is_short key.octets
+concerns_signer SmallRsa policy verifiers keys key = is_small_rsa key.octets
+concerns_signer RefusedRsa policy verifiers keys key = is_refused_rsa key.octets
+concerns_signer RefusedEc policy verifiers keys key = is_refused_ec key.octets
+concerns_signer RefusedOkp policy verifiers keys key = is_refused_okp key.octets
+concerns_signer _ policy verifiers keys key = false
+
+-- it may sign or verify: a key for encryption, whose `use` is `enc`, may neither (RFC 7517, sections 4.2 and 4.3)
+abbrev pub is_for_signing : KeyParts → Bool
+is_for_signing key = permits_of (codes "verify") key || permits_of (codes "sign") key
+
+-- a key for encryption is no concern of a policy
 abbrev pub concerns : Advice → Settings → List Meaning → List KeyParts → KeyParts → Bool
-concerns UnusedKey policy verifiers keys key = is_unused policy verifiers key
-concerns KidTwice policy verifiers keys key = is_twice keys key
-concerns UniformSecret policy verifiers keys key = is_uniform key.octets
-concerns PrintableSecret policy verifiers keys key = is_printable key.octets
-concerns RefusedRsa policy verifiers keys key = is_refused_rsa key.octets
-concerns RefusedEc policy verifiers keys key = is_refused_ec key.octets
-concerns RefusedOkp policy verifiers keys key = is_refused_okp key.octets
-concerns _ policy verifiers keys key = false
+concerns advice policy verifiers keys key = is_for_signing key && concerns_signer advice policy verifiers keys key
 
 -- ---- all
 
@@ -85,7 +95,7 @@ advises advice policy verifiers keys = policy_advises advice policy || set_advis
 abbrev pub every_advice : List Advice
 every_advice =
     NoExp ∷ NoIssuers ∷ NoAudiences ∷ NoTyp ∷ MixedAlgs ∷ UncheckedSignatures ∷ AlgWithoutKey ∷ NoKid ∷ LowWork ∷ LowCalls ∷ ManyCalls
-    ∷ UnusedKey ∷ KidTwice ∷ UniformSecret ∷ PrintableSecret ∷ RefusedRsa ∷ RefusedEc ∷ RefusedOkp ∷ []
+    ∷ UnusedKey ∷ KidTwice ∷ UniformSecret ∷ PrintableSecret ∷ ShortSecret ∷ SmallRsa ∷ RefusedRsa ∷ RefusedEc ∷ RefusedOkp ∷ []
 
 -- the names, as they are printed
 abbrev pub advice_name : Advice → List ℕ
@@ -104,6 +114,8 @@ advice_name UnusedKey = codes "UnusedKey"
 advice_name KidTwice = codes "KidTwice"
 advice_name UniformSecret = codes "UniformSecret"
 advice_name PrintableSecret = codes "PrintableSecret"
+advice_name ShortSecret = codes "ShortSecret"
+advice_name SmallRsa = codes "SmallRsa"
 advice_name RefusedRsa = codes "RefusedRsa"
 advice_name RefusedEc = codes "RefusedEc"
 advice_name RefusedOkp = codes "RefusedOkp"

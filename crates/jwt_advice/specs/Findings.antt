@@ -6,11 +6,12 @@ use Rattle.jwt_mac.specs.Verifying.{Meaning}
 use Rattle.jwt_keys.specs.Keys.{KeyParts}
 use Rattle.jwt_keys.specs.Numbers.{numbers}
 use Rattle.jwt_policy.specs.Settings.{Settings}
-use Rattle.jwt_advice.specs.Uses.{key_count, is_unused}
+use Rattle.jwt_advice.specs.Uses.{key_count}
 use Rattle.jwt_advice.specs.Costs.{greatest_cost}
 use Rattle.jwt_advice.specs.declared.costs.Cost.TheVariants.{Work, Calls}
 use Rattle.jwt_advice.specs.Advised.{policy_advises, set_advises, concerns, every_advice}
 use Rattle.jwt_advice.specs.declared.advice.Advice.{Advice}
+use Rattle.jwt_advice.specs.declared.advice.Advice.TheVariants.{UnusedKey}
 use Rattle.jwt_advice.specs.declared.findings.AlgKeys.{AlgKeys}
 use Rattle.jwt_advice.specs.declared.findings.KeyFacts.{KeyFacts as CodeFacts}
 use Rattle.jwt_advice.specs.declared.findings.Findings.{Findings as CodeFindings}
@@ -54,7 +55,7 @@ counted verifiers keys alg = record { alg = alg; keys = key_count verifiers keys
 abbrev pub facts : Settings → List Meaning → List KeyParts → Facts
 facts policy verifiers keys = record {
   algs = map (counted verifiers keys) policy.run.algs;
-  unused = numbers (is_unused policy verifiers) 0 keys;
+  unused = numbers (concerns UnusedKey policy verifiers keys) 0 keys;
   work = greatest_cost Work policy verifiers keys;
   calls = greatest_cost Calls policy verifiers keys;
 }

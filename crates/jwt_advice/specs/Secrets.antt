@@ -8,6 +8,11 @@ abbrev pub is_uniform : KeyOctets → Bool
 is_uniform (OctKey octets) = nat_lt 0 (length octets) && list_all (λ octet. octet == slice_index octets 0) octets
 is_uniform _ = false
 
+-- a secret of fewer octets than any HMAC algorithm takes: HS256 takes 32 (RFC 7518, section 3.2)
+abbrev pub is_short : KeyOctets → Bool
+is_short (OctKey octets) = nat_lt (length octets) 32
+is_short _ = false
+
 -- an octet that is a printable ASCII character, a space among them
 abbrev pub is_printable_octet : ℕ → Bool
 is_printable_octet octet = nat_le 32 octet && nat_lt octet 127

@@ -8,12 +8,12 @@ ghost use Rattle.jwt_keys.specs.KeySets.{key_set};
 ghost use Rattle.jwt_keys.specs.Numbers.{numbers};
 ghost use Rattle.jwt_keys.specs.Views.{key_parts};
 ghost use Rattle.jwt_advice.specs.Uses.{key_count};
-ghost use Rattle.jwt_advice.specs.Advised.{policy_advises, mixes, set_advises, lacks_key, shares_alg, concerns, is_twice, stands_twice, advises, every_advice, advice_name};
+ghost use Rattle.jwt_advice.specs.Advised.{policy_advises, mixes, set_advises, lacks_key, shares_alg, concerns, concerns_signer, is_for_signing, is_twice, stands_twice, advises, every_advice, advice_name};
 
 use crate::costs::{Cost, most};
 use crate::refused_keys::{is_refused_ec, is_refused_okp};
-use crate::rsa_keys::is_refused_rsa;
-use crate::secrets::{is_printable, is_uniform};
+use crate::rsa_keys::{is_refused_rsa, is_small_rsa};
+use crate::secrets::{is_printable, is_short, is_uniform};
 use crate::uses::{is_unused, key_count};
 use jwt_keys::{Key, KeySet};
 use jwt_mac::{Alg, Verifier};
@@ -53,6 +53,10 @@ pub enum Advice {
     UniformSecret,
     /// A secret of printable characters alone, as a password has (RFC 8725, section 3.5).
     PrintableSecret,
+    /// A secret of fewer than 32 octets, which no HMAC algorithm takes (RFC 7518, section 3.2).
+    ShortSecret,
+    /// An RSA key whose modulus has fewer than 256 octets (RFC 7518, section 3.3).
+    SmallRsa,
     /// An RSA key by which the built-in verifiers accept no signature.
     RefusedRsa,
     /// An EC key that is no point of its curve: the built-in verifiers accept no signature by it.
@@ -82,6 +86,8 @@ impl Advice {
             Advice::KidTwice => "KidTwice",
             Advice::UniformSecret => "UniformSecret",
             Advice::PrintableSecret => "PrintableSecret",
+            Advice::ShortSecret => "ShortSecret",
+            Advice::SmallRsa => "SmallRsa",
             Advice::RefusedRsa => "RefusedRsa",
             Advice::RefusedEc => "RefusedEc",
             Advice::RefusedOkp => "RefusedOkp",
@@ -90,7 +96,7 @@ impl Advice {
 }
 
 /// Each advice, in the order in which they are told.
-pub const EVERY: [Advice; 18] = [
+pub const EVERY: [Advice; 20] = [
     Advice::NoExp,
     Advice::NoIssuers,
     Advice::NoAudiences,
@@ -106,6 +112,8 @@ pub const EVERY: [Advice; 18] = [
     Advice::KidTwice,
     Advice::UniformSecret,
     Advice::PrintableSecret,
+    Advice::ShortSecret,
+    Advice::SmallRsa,
     Advice::RefusedRsa,
     Advice::RefusedEc,
     Advice::RefusedOkp,
@@ -281,11 +289,34 @@ fn concerns(
     ensures { result ≡ concerns advice policy.now (map meaning verifiers.now)
         (key_set keys.now).keys (key_parts key.now) }
 {
+    is_for_signing(key) && concerns_signer(advice, policy, keys, verifiers, key)
+}
+
+/// Whether the key may sign or verify, as one for encryption may not.
+pub fn is_for_signing(key: &Key) -> bool
+    ensures { result ≡ is_for_signing (key_parts key.now) }
+{
+    key.permits("verify") || key.permits("sign")
+}
+
+/// Whether the advice concerns a key that may sign or verify.
+fn concerns_signer(
+    advice: Advice,
+    policy: &Policy,
+    keys: &KeySet,
+    verifiers: &[Box<dyn Verifier>],
+    key: &Key,
+) -> bool
+    ensures { result ≡ concerns_signer advice policy.now (map meaning verifiers.now)
+        (key_set keys.now).keys (key_parts key.now) }
+{
     match advice {
         Advice::UnusedKey => is_unused(policy, verifiers, key),
         Advice::KidTwice => is_twice(keys, key),
         Advice::UniformSecret => is_uniform(key.view()),
         Advice::PrintableSecret => is_printable(key.view()),
+        Advice::ShortSecret => is_short(key.view()),
+        Advice::SmallRsa => is_small_rsa(key.view()),
         Advice::RefusedRsa => is_refused_rsa(key.view()),
         Advice::RefusedEc => is_refused_ec(key.view()),
         Advice::RefusedOkp => is_refused_okp(key.view()),

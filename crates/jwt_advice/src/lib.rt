@@ -17,11 +17,12 @@ mod rsa_keys;
 mod secrets;
 mod uses;
 
-pub use advice::{Advice, EVERY, advices, advised_keys, advises};
+pub use advice::{Advice, EVERY, advices, advised_keys, advises, is_for_signing};
 pub use costs::{Cost, most};
 pub use findings::{AlgKeys, Findings, KeyFacts};
 pub use notes::Note;
 pub use private::private_entries;
 pub use refused_keys::{is_refused_ec, is_refused_okp};
-pub use rsa_keys::is_refused_rsa;
+pub use rsa_keys::{is_refused_rsa, is_small_rsa};
+pub use secrets::is_short;
 pub use uses::{key_count, serves};

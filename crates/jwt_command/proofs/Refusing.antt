@@ -48,12 +48,12 @@ not_longer longer n m is refused = ⊎_elim (λ below. absurd (iff_false is refu
 
 -- ---- a key set
 
-pub keys_read : (tell : Printer) {A E : Type 0} (view : A → Answer) (r : Result A E) (vs : List Meaning) (now : ℕ) (h : Held) (p : Settings) (set : KeyList) (x octets : List ℕ) (mid : Option (List ℕ)) (failed : Bool)
-    → TakesDocument LONGEST_KEY_SET h.keys x octets mid → key_set_of octets ≡ Ok set → IfSome mid (λ y. IfOk r (λ a. view a ≡ unless_read_failed tell failed (under_rule tell (terms_of_keys vs now p set) (rule_in_hand h.access) (last_document h.token y))))
+pub keys_read : (tell : Printer) {A E : Type 0} (view : A → Answer) (r : Result A E) (vs : Settings → List Meaning) (now : ℕ) (h : Held) (p : Settings) (set : KeyList) (x octets : List ℕ) (mid : Option (List ℕ)) (failed : Bool)
+    → TakesDocument LONGEST_KEY_SET h.keys x octets mid → key_set_of octets ≡ Ok set → IfSome mid (λ y. IfOk r (λ a. view a ≡ unless_read_failed tell failed (under_rule tell (terms_of_keys (vs p) now p set) (rule_in_hand h.access) (last_document h.token y))))
     → IfOk r (λ a. view a ≡ unless_read_failed tell failed (keys_answer tell vs now h p x))
 keys_read tell view r vs now h p set x octets mid failed d is further =
-    subst (λ k. IfOk r (λ a. view a ≡ unless_read_failed tell failed (under_keys tell vs now h p k (last_document h.token (behind h.keys x))))) (sym is ∙ ap key_set_of d.octets_are)
-    (subst (λ m. IfSome m (λ y. IfOk r (λ a. view a ≡ unless_read_failed tell failed (under_rule tell (terms_of_keys vs now p set) (rule_in_hand h.access) (last_document h.token y))))) d.unread further)
+    subst (λ k. IfOk r (λ a. view a ≡ unless_read_failed tell failed (under_keys tell (vs p) now h p k (last_document h.token (behind h.keys x))))) (sym is ∙ ap key_set_of d.octets_are)
+    (subst (λ m. IfSome m (λ y. IfOk r (λ a. view a ≡ unless_read_failed tell failed (under_rule tell (terms_of_keys (vs p) now p set) (rule_in_hand h.access) (last_document h.token y))))) d.unread further)
 
 -- a key set that is all of the input: no more of it is looked at than one octet past the limit
 pub set_bounded : (x : List ℕ) → key_set_of (take (LONGEST_KEY_SET + 1) x) ≡ key_set_of x

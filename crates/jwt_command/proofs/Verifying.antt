@@ -79,7 +79,7 @@ behind_keys_taken most held x octets mid rest failed set h is then =
     (document_then_stops LONGEST_KEY_SET (λ y. most) held x octets mid rest failed h then)
 
 -- the answer under a policy that is read
-pub policy_read : (tell : Printer) {A E : Type 0} (view : A → Answer) (r : Result A E) (vs : List Meaning) (now : ℕ) (h : Held) (p : Settings) (x octets : List ℕ) (mid : Option (List ℕ)) (failed : Bool)
+pub policy_read : (tell : Printer) {A E : Type 0} (view : A → Answer) (r : Result A E) (vs : Settings → List Meaning) (now : ℕ) (h : Held) (p : Settings) (x octets : List ℕ) (mid : Option (List ℕ)) (failed : Bool)
     → TakesDocument LONGEST_POLICY h.policy x octets mid → policy_of octets ≡ Ok p → IfSome mid (λ y. IfOk r (λ a. view a ≡ unless_read_failed tell failed (keys_answer tell vs now h p y)))
     → IfOk r (λ a. view a ≡ verify_answer tell vs now h failed x)
 policy_read tell view r vs now h p x octets mid failed d is then =
@@ -96,12 +96,12 @@ pub policy_too_long : (z : List ℕ) → LONGEST_POLICY < length z → policy_of
 unfolding policy_of
 policy_too_long z long = let is : nat_lt LONGEST_POLICY (length z) ≡ true = grind (arith, nat_tests, long) in rw is refl
 
-pub keys_line_too_long : (tell : Printer) (vs : List Meaning) (now : ℕ) (h : Held) (p : Settings) (x : List ℕ) (failed : Bool) → failed ≡ false → LONGEST_KEY_SET < length (document h.keys x)
+pub keys_line_too_long : (tell : Printer) (vs : Settings → List Meaning) (now : ℕ) (h : Held) (p : Settings) (x : List ℕ) (failed : Bool) → failed ≡ false → LONGEST_KEY_SET < length (document h.keys x)
     → tell.keys_refused keys.TooLong ≡ unless_read_failed tell failed (keys_answer tell vs now h p x)
 keys_line_too_long tell vs now h p x failed works long =
-    sym (ap (λ f. unless_read_failed tell f (keys_answer tell vs now h p x)) works ∙ ap (λ k. under_keys tell vs now h p k (last_document h.token (behind h.keys x))) (keys_too_long (document h.keys x) long))
+    sym (ap (λ f. unless_read_failed tell f (keys_answer tell vs now h p x)) works ∙ ap (λ k. under_keys tell (vs p) now h p k (last_document h.token (behind h.keys x))) (keys_too_long (document h.keys x) long))
 
-pub policy_line_too_long : (tell : Printer) (vs : List Meaning) (now : ℕ) (h : Held) (x : List ℕ) (failed : Bool) → failed ≡ false → LONGEST_POLICY < length (document h.policy x)
+pub policy_line_too_long : (tell : Printer) (vs : Settings → List Meaning) (now : ℕ) (h : Held) (x : List ℕ) (failed : Bool) → failed ≡ false → LONGEST_POLICY < length (document h.policy x)
     → tell.policy_refused policy.TooLong ≡ verify_answer tell vs now h failed x
 policy_line_too_long tell vs now h x failed works long =
     sym (ap (λ f. verify_answer tell vs now h f x) works ∙ ap (λ k. under_policy tell vs now h k (behind h.policy x)) (policy_too_long (document h.policy x) long))

@@ -1,5 +1,5 @@
 -- The answer of `jwt jwk`.
-use Rattle.std.specs.Prelude.{◌≡◌, ◌≢◌, ◌≤◌, ◌<◌, ◌⊎◌, ℕ, ◌==◌, ◌&&◌, nat_le, Bool, true, false, List, [], ◌∷◌, length, codes, Option, Some, None, option_and_then, if◌then◌else◌}
+use Rattle.std.specs.Prelude.{◌≡◌, ◌≢◌, ◌≤◌, ◌<◌, ◌⊎◌, ℕ, ◌==◌, ◌&&◌, nat_le, Bool, true, false, List, [], ◌∷◌, length, codes, Option, Some, None, option_and_then, unwrap_or, if◌then◌else◌}
 use Rattle.jwt_mac.specs.Algorithm.{digest_size, name_of}
 use Rattle.jwt_mac.specs.Verifying.{KeyOctets, OctKey}
 use Rattle.jwt_mac.specs.declared.algorithm.Alg.{Alg}
@@ -83,13 +83,17 @@ whole_secret size octets = if length octets == size then Some octets else None
 abbrev pub fresh_secret : Alg → Option (List ℕ) → Option (List ℕ)
 fresh_secret alg random = option_and_then (whole_secret (digest_size alg)) random
 
--- a secret, with its thumbprint as `kid`, for this algorithm alone: its JWK, or the key set of it
-abbrev pub secret_json : Bool → Alg → List ℕ → List ℕ
-secret_json true alg k = jwk_text (Some (thumbprint_of_key (OctKey k))) (Some (name_of alg)) (OctKey k)
-secret_json false alg k = jwk_set_text (kid_by KidThumbprint) (Some (name_of alg)) (OctKey k ∷ [])
+-- a secret with this `kid`, for this algorithm alone: its JWK, or the key set of it
+abbrev pub secret_named : Bool → Alg → (kid k : List ℕ) → List ℕ
+secret_named true alg kid k = jwk_text (Some kid) (Some (name_of alg)) (OctKey k)
+secret_named false alg kid k = jwk_set_text (kid_by (KidNamed kid)) (Some (name_of alg)) (OctKey k ∷ [])
+
+-- with the `kid` that is asked for, or else its thumbprint
+abbrev pub secret_json : SecretOrder → List ℕ → List ℕ
+secret_json order k = secret_named order.bare order.alg (unwrap_or order.kid (thumbprint_of_key (OctKey k))) k
 
 abbrev pub secret_line : SecretOrder → Option (List ℕ) → Answer
-secret_line order (Some k) = jwk_line (secret_json order.bare order.alg k)
+secret_line order (Some k) = jwk_line (secret_json order k)
 secret_line order None = random_failed order.printing
 
 -- the octets of a file, where they are a key for the algorithm: as many as a digest has, or more (RFC 7518, section 3.2), and at most 4,096
@@ -97,7 +101,7 @@ abbrev pub kept_secret : ℕ → List ℕ → Option (List ℕ)
 kept_secret size octets = if nat_le size (length octets) && nat_le (length octets) 4096 then Some octets else None
 
 abbrev pub kept_secret_line : SecretOrder → Option (List ℕ) → Answer
-kept_secret_line order (Some k) = jwk_line (secret_json order.bare order.alg k)
+kept_secret_line order (Some k) = jwk_line (secret_json order k)
 kept_secret_line order None = jwk_refused order.printing (codes "KeySize") None
 
 -- the answer: of a file, or a new one

@@ -21,6 +21,9 @@ pub record Outcome : Type 0 where
   pub failed : Bool
   pub status : ℕ
 
+abbrev pub ends : (before after : Option (List ℕ)) → Bool → ℕ → Outcome
+ends before after failed status = record { before = before; after = after; failed = failed; status = status }
+
 abbrev pub Printed : Answer → Outcome → Type 0
 Printed a o = Prints a o.before o.after o.failed o.status
 

@@ -18,14 +18,14 @@ use Rattle.jwt_command.specs.Answered.{IsAnswer}
 use Rattle.jwt_command.specs.Mac.{key_spelled}
 use Rattle.jwt_command.specs.RunLines.{LinesInHand, Outcome, Printed}
 use Rattle.jwt_command.specs.Stops.{lacking, most_taken}
-use Rattle.jwt_command.specs.Verify.{asked_for}
+use Rattle.jwt_command.specs.Verify.{verifiers_if}
 
 -- ---- what is printed
 
 -- where each file that is named is in hand: an answer to each line, by what a clock says, or one answer
 abbrev pub RunsInHand : List Meaning → (ℕ → List ℕ → ℕ → Type 0) → Held → Command → List ℕ → Bool → Outcome → Type 0
 RunsInHand built_in says held (VerifyLines order) x failed o =
-    LinesInHand (printer_for order.printing order.expected) (asked_for order.public_keys built_in) says order.now held.policy held.keys held.access x failed o
+    LinesInHand (printer_for order.printing order.expected) (verifiers_if order.public_keys built_in) says order.now held.policy held.keys held.access x failed o
 RunsInHand built_in says held command x failed o = (a : Answer) × IsAnswer built_in held command failed x a × Printed a o
 
 -- or the first that isn't can't be read
@@ -81,6 +81,9 @@ pub record Drawn : Type 0 where
   pub before : Option (List ℕ)
   pub after : Option (List ℕ)
   pub failed : Bool
+
+abbrev pub draws : (before after : Option (List ℕ)) → Bool → Drawn
+draws before after failed = record { before = before; after = after; failed = failed }
 
 -- a run of words that ask for this, or for nothing, on a source that may be untouched
 pub record IsRun (built_in : List Meaning) (says : ℕ → List ℕ → ℕ → Type 0) (held : Held) (asked : Option Command) (source : Drawn) (Untouched : Type 0) (o : Outcome) : Type 0 where

@@ -14,9 +14,9 @@ abbrev pub rule_view : Option (Bor Rule) → Option Rule
 rule_view rule = option_map (λ r. r.now) rule
 
 -- how answers are told, with what is expected of a claim
-abbrev pub told_by : Printing → Option Expectation → Printer
-told_by printing expected = printer_for printing (option_map expectation_view expected)
+abbrev pub printer_of : Printing → Option Expectation → Printer
+printer_of printing expected = printer_for printing (option_map expectation_view expected)
 
 -- what is asked of the claims of an accepted token
-abbrev pub asked_of : Telling → Demands
-asked_of telling = record { rule = rule_view telling.rule; expected = option_map expectation_view telling.expected }
+abbrev pub demands_of : Telling → Demands
+demands_of telling = record { rule = rule_view telling.rule; expected = option_map expectation_view telling.expected }

@@ -9,7 +9,7 @@ ghost use Rattle.jwt_jwk.specs.FaultNames.{jwk_fault_name, remedy};
 ghost use Rattle.jwt_output.specs.Jwk.{jwk_line, jwk_refused};
 ghost use Rattle.jwt_output.specs.Views.{reply_view};
 ghost use Rattle.jwt_command.specs.Documents.{last_most};
-ghost use Rattle.jwt_command.specs.Jwk.{AreKeys, AreKeysAs, IsFaultAs, IsJwkAnswer, IsPrinted, IsPrintedAs, JwkOfInput, JwkOfKeys, JwkOfOctets, kid_by, kept_secret, kept_secret_line, secret_answer, secret_json, secret_line, fresh_secret};
+ghost use Rattle.jwt_command.specs.Jwk.{AreKeys, AreKeysAs, IsFaultAs, IsJwkAnswer, IsPrinted, IsPrintedAs, JwkOfInput, JwkOfKeys, JwkOfOctets, kid_by, kept_secret, kept_secret_line, secret_answer, secret_json, secret_line, secret_named, fresh_secret};
 
 use crate::input::whole::read_input;
 use jwt_jwk::{
@@ -160,19 +160,40 @@ pub(crate) fn jwk<R: Source>(
     }
 }
 
-/// The JWK of a secret, or the key set of it, with its thumbprint as `kid`, for this algorithm alone.
-fn secret_json(alloc: Global, bare: bool, alg: Alg, k: &[u8]) -> Result<Vec<u8>, TextFault>
+/// The JWK of a secret, or the key set of it, with this `kid`, for this algorithm alone.
+fn secret_named(
+    alloc: Global,
+    bare: bool,
+    alg: Alg,
+    kid: &str,
+    k: &[u8],
+) -> Result<Vec<u8>, TextFault>
     requires hmac { is_hmac_alg alg ≡ true }
     requires least { digest_size alg ≤ length k.now }
     requires most { length k.now ≤ 4096 }
-    ensures { IfOk result (λ v. v.items ≡ secret_json bare alg k.now) }
+    ensures { IfOk result (λ v. v.items ≡ secret_named bare alg kid.now k.now) }
 {
     let key = KeyView::Oct { k };
-    let print = thumbprint(alloc, key)?;
     if bare {
-        write_jwk(alloc, key, Some(print.as_str()), Some(alg.text()))
+        write_jwk(alloc, key, Some(kid), Some(alg.text()))
     } else {
-        write_jwk_set(alloc, key, Some(print.as_str()), Some(alg.text()))
+        write_jwk_set(alloc, key, Some(kid), Some(alg.text()))
+    }
+}
+
+/// The same with the `kid` that is asked for, or else its thumbprint.
+fn secret_json(alloc: Global, order: SecretOrder<'_>, k: &[u8]) -> Result<Vec<u8>, TextFault>
+    requires hmac { is_hmac_alg order.alg ≡ true }
+    requires least { digest_size order.alg ≤ length k.now }
+    requires most { length k.now ≤ 4096 }
+    ensures { IfOk result (λ v. v.items ≡ secret_json (secret_view order.entry) k.now) }
+{
+    match order.kid {
+        Some(kid) => secret_named(alloc, order.bare, order.alg, kid, k),
+        None => {
+            let print = thumbprint(alloc, KeyView::Oct { k })?;
+            secret_named(alloc, order.bare, order.alg, print.as_str(), k)
+        }
     }
 }
 
@@ -182,9 +203,9 @@ fn secret_line(alloc: Global, order: SecretOrder<'_>, k: &[u8]) -> Result<Reply,
     requires least { digest_size order.alg ≤ length k.now }
     requires most { length k.now ≤ 4096 }
     ensures { IfOk result (λ a. reply_view a
-        ≡ jwk_line (secret_json order.entry.bare order.entry.alg k.now)) }
+        ≡ jwk_line (secret_json (secret_view order.entry) k.now)) }
 {
-    match secret_json(alloc, order.bare, order.alg, k) {
+    match secret_json(alloc, order, k) {
         Ok(json) => jwk_line(json),
         Err(_) => Err(AllocError),
     }

@@ -6,11 +6,28 @@ ghost use Rattle.jwt_output.specs.Views.{reply_view};
 
 use crate::documents::{TakenDocument, read_document};
 use crate::subject::{Replied, refused_keys};
+use jwt_advice::{Advice, Note, is_for_signing, is_short, is_small_rsa};
 use jwt_keys::{KeySet, KeysFault};
 use jwt_output::{printed_read_fault, printed_set};
 use jwt_settings::Printing;
 use jwt_text::{LONGEST_KEY_SET, Source};
 use std::alloc::{AllocError, Global};
+
+/// The advice on keys for which no policy is needed: on secrets that are too short, and on RSA keys that are too small.
+fn weak_keys(alloc: Global, set: &KeySet) -> Result<Vec<Note>, AllocError> {
+    let mut notes = Vec::new(alloc);
+    for number in 0..set.len() {
+        if let Some(key) = set.key(number) {
+            if is_for_signing(key) && is_short(key.view()) {
+                notes.push(Note::OfKey(Advice::ShortSecret, number))?;
+            }
+            if is_for_signing(key) && is_small_rsa(key.view()) {
+                notes.push(Note::OfKey(Advice::SmallRsa, number))?;
+            }
+        }
+    }
+    Ok(notes)
+}
 
 /// Runs `jwt keys`, in JSON or in lines, on an input of at most 4,194,304 octets. A set without entries has no line.
 pub(crate) fn keys<'a, R: Source>(
@@ -28,7 +45,10 @@ pub(crate) fn keys<'a, R: Source>(
         return Ok(Replied::bare(printed_read_fault(alloc, printing)?));
     };
     match KeySet::read(alloc, input.octets()) {
-        Ok(set) => Ok(Replied::bare(printed_set(alloc, printing, &set)?)),
+        Ok(set) => {
+            let notes = weak_keys(alloc, &set)?;
+            Ok(Replied::advised(printed_set(alloc, printing, &set)?, notes))
+        }
         Err(KeysFault::OutOfMemory) => Err(AllocError),
         Err(fault) => refused_keys(alloc, printing, fault, TakenDocument::Input(input)),
     }

@@ -24,6 +24,8 @@ pub mod subject;
 mod telling;
 mod verify;
 pub mod verify_lines;
+mod version;
 
 pub use jwt_settings::Moment;
 pub use jwt_words::{Command, Files, Reads, WordsFault, read_words};
+pub use version::VERSION;

@@ -13,7 +13,6 @@ use crate::subject::{Replied, refused_keys, refused_policy};
 use jwt_advice::{Findings, private_entries};
 use jwt_keys::{KeySet, KeysFault};
 use jwt_mac::Verifier;
-use jwt_output::Reply;
 use jwt_output::verdicts::printed_policy;
 use jwt_policy::{Policy, PolicyFault};
 use jwt_settings::Printing;
@@ -39,12 +38,17 @@ struct ReadPolicy<'p> {
 }
 
 /// A policy alone.
-fn alone(alloc: Global, printing: Printing, read: &ReadPolicy<'_>) -> Result<Reply, AllocError>
-    ensures { IfOk result (λ a. a.status ≡ status_of (found_alone read.now.policy.now).notes) }
+fn alone<'a>(
+    alloc: Global,
+    printing: Printing,
+    read: &ReadPolicy<'_>,
+) -> Result<Replied<'a>, AllocError>
+    ensures { IfOk result (λ a. a.reply.status ≡ status_of (found_alone read.now.policy.now).notes) }
 {
     let found = Findings::alone(alloc, read.policy)?;
     let members = members_in(alloc, read.document)?;
-    printed_policy(alloc, printing, &members.lend(), read.policy, &found)
+    let reply = printed_policy(alloc, printing, &members.lend(), read.policy, &found)?;
+    Ok(Replied::advised(reply, found.notes))
 }
 
 /// The places of the entries of a key set document that have a private member.
@@ -67,21 +71,22 @@ struct ReadKeys<'k> {
 }
 
 /// A policy with a key set that was read.
-fn with_set(
+fn with_set<'a>(
     alloc: Global,
     printing: Printing,
     verifiers: &[Box<dyn Verifier>],
     read: &ReadPolicy<'_>,
     set: &ReadKeys<'_>,
-) -> Result<Reply, AllocError>
-    ensures { IfOk result (λ a. a.status ≡ status_of
+) -> Result<Replied<'a>, AllocError>
+    ensures { IfOk result (λ a. a.reply.status ≡ status_of
         (found_with read.now.policy.now (map meaning verifiers.now) (key_set set.now.keys.now).keys
         (numbers is_private 0 (entries_of set.now.document.now))).notes) }
 {
     let places = private_places(alloc, set.document)?;
     let found = Findings::with_keys(alloc, read.policy, set.keys, verifiers, places.as_slice())?;
     let members = members_in(alloc, read.document)?;
-    printed_policy(alloc, printing, &members.lend(), read.policy, &found)
+    let reply = printed_policy(alloc, printing, &members.lend(), read.policy, &found)?;
+    Ok(Replied::advised(reply, found.notes))
 }
 
 /// A policy with the document of its key set.
@@ -101,7 +106,7 @@ fn with_keys<'a>(
                 document,
                 keys: &keys,
             };
-            Ok(Replied::bare(with_set(alloc, printing, verifiers, read, &set)?))
+            with_set(alloc, printing, verifiers, read, &set)
         }
         Err(KeysFault::OutOfMemory) => Err(AllocError),
         Err(fault) => refused_keys(alloc, printing, fault, TakenDocument::Held(document)),
@@ -121,7 +126,7 @@ fn meaning_of<'a>(
 {
     match keys {
         Some(keys) => with_keys(alloc, printing, verifiers, read, keys),
-        None => Ok(Replied::bare(alone(alloc, printing, read)?)),
+        None => alone(alloc, printing, read),
     }
 }
 

@@ -6,9 +6,10 @@ ghost use Rattle.jwt_words.specs.Seen.{command_view, held_view};
 ghost use Rattle.jwt_words.specs.Words.{Command as Wanted, HasRange, command_of};
 ghost use Rattle.jwt_output.specs.Views.{reply_view};
 ghost use Rattle.jwt_command.specs.Answered.{IsAnswer, version_answer};
-ghost use Rattle.jwt_command.specs.Runs.{IsReading, IsRun, TellsWrong, fails_otherwise, is_lines, reads_nothing};
+ghost use Rattle.jwt_command.specs.RunLines.{ends};
+ghost use Rattle.jwt_command.specs.Runs.{IsReading, IsRun, TellsWrong, draws, fails_otherwise, is_lines, reads_nothing};
 ghost use Rattle.jwt_command.specs.Stops.{most_in_hand};
-ghost use Rattle.jwt_command.specs.Verify.{asked_for};
+ghost use Rattle.jwt_command.specs.Verify.{verifiers_if};
 
 use crate::issue::issue;
 use crate::jwk::{jwk, secret};
@@ -19,6 +20,7 @@ use crate::show::show;
 use crate::subject::{Ran, Replied, give_alone, give_no_memory, give_replied, give_wrong};
 use crate::verify::{VerifyOptions, verify};
 use crate::verify_lines::{Clock, LinesAsked, NoClock, run_lines};
+use crate::version::VERSION;
 use jwt_issue::IssueOptions;
 use jwt_mac::Verifier;
 pub use jwt_output::lack_memory;
@@ -31,7 +33,7 @@ use std::alloc::{AllocError, Global};
 /// What a program has at hand for an answer, beside its clock.
 #[derive(Clone, Copy)]
 pub struct AtHand<'v, 'a> {
-    /// The verifiers for public keys, which `verify --public-keys` hands in.
+    /// The verifiers for public keys, which `verify` hands in where it is by public keys.
     pub built_in: &'v [Box<dyn Verifier>],
 
     /// The documents that were read from files, which stand in the place of those in the input, and octets of the system's random source.
@@ -47,18 +49,9 @@ pub struct AtHand<'v, 'a> {
 pub fn run<R: Source, W: Sink>(alloc: Global, words: &[&str], r: &mut R, w: &mut W) -> u8
     ensures { IsRun [] (⟦<NoClock as Clock>⟧.says) none_held
         (command_of None (map (λ word. word.now) words.now))
-        (record {
-          before = R.remaining r.old;
-          after = R.remaining r.new;
-          failed = R.failed r.new;
-        })
+        (draws (R.remaining r.old) (R.remaining r.new) (R.failed r.new))
         (r.new ≡ r.old)
-        (record {
-          before = W.contents w.old;
-          after = W.contents w.new;
-          failed = W.failed w.new;
-          status = result;
-        }) }
+        (ends (W.contents w.old) (W.contents w.new) (W.failed w.new) result) }
 {
     let built_in: [Box<dyn Verifier>; 0] = [];
     let at_hand = AtHand {
@@ -91,27 +84,13 @@ pub fn run_read<'a, R: Source, W: Sink, C: Clock>(
     requires { IfOk words (λ command. HasRange (command_view command)) }
     ensures run { (asked : Option Wanted) → IsReading words.entry asked
         → IsRun (map meaning at_hand.now.built_in.now) C.says (held_view at_hand.now.held) asked
-        (record {
-          before = R.remaining r.old;
-          after = R.remaining r.new;
-          failed = R.failed r.new;
-        })
+        (draws (R.remaining r.old) (R.remaining r.new) (R.failed r.new))
         (r.new ≡ r.old)
-        (record {
-          before = W.contents w.old;
-          after = W.contents w.new;
-          failed = W.failed w.new;
-          status = result.status;
-        }) }
+        (ends (W.contents w.old) (W.contents w.new) (W.failed w.new) result.status) }
 
     // Of wrong words, what reading them gave.
     ensures wrong { TellsWrong words.entry
-        (record {
-          before = W.contents w.old;
-          after = W.contents w.new;
-          failed = W.failed w.new;
-          status = result.status;
-        }) }
+        (ends (W.contents w.old) (W.contents w.new) (W.failed w.new) result.status) }
 {
     let command = match words {
         Ok(command) => command,
@@ -138,16 +117,15 @@ pub fn run_read<'a, R: Source, W: Sink, C: Clock>(
 fn version_line(alloc: Global) -> Result<Reply, AllocError>
     ensures { IfOk result (λ a. reply_view a ≡ version_answer) }
 {
-    Reply::line(
-        alloc,
-        "jwt 0.1.0, proved with rattle-kit-13f logic dac8208d650f15bf",
-        0,
-    )
+    Reply::line(alloc, VERSION, 0)
 }
 
 /// The verifiers for public keys, where they are asked for.
-pub(crate) fn asked_for(public_keys: bool, built_in: &[Box<dyn Verifier>]) -> &[Box<dyn Verifier>]
-    ensures { map meaning result.now ≡ asked_for public_keys (map meaning built_in.now) }
+pub(crate) fn verifiers_if(
+    public_keys: bool,
+    built_in: &[Box<dyn Verifier>],
+) -> &[Box<dyn Verifier>]
+    ensures { map meaning result.now ≡ verifiers_if public_keys (map meaning built_in.now) }
 {
     if public_keys {
         built_in
@@ -198,7 +176,8 @@ fn reply_to<'a, R: Source>(
             let options = VerifyOptions {
                 printing,
                 moment: now,
-                verifiers: asked_for(public_keys, at_hand.built_in),
+                public_keys,
+                verifiers: at_hand.built_in,
                 expected,
             };
             verify(alloc, &options, held, r)

@@ -6,6 +6,7 @@ ghost use Rattle.jwt_output.specs.Views.{reply_view};
 
 use crate::documents::TakenDocument;
 use jwt_access::AccessFault;
+use jwt_advice::Note;
 use jwt_jws::FormFault;
 use jwt_keys::KeysFault;
 use jwt_output::reasons::Cause;
@@ -45,6 +46,9 @@ pub struct Ran<'a> {
 
     /// The document that was refused; none where none was, or where the command reads none of these.
     pub subject: Option<Subject<'a>>,
+
+    /// What `policy` advises, and of `keys` the advice for which no policy is needed.
+    pub notes: Option<Vec<Note>>,
 }
 
 impl Ran<'_> {
@@ -56,6 +60,7 @@ impl Ran<'_> {
             status,
             cause: Cause::None,
             subject: None,
+            notes: None,
         }
     }
 }
@@ -65,6 +70,7 @@ impl Ran<'_> {
 pub(crate) struct Replied<'a> {
     pub(crate) reply: Reply,
     pub(crate) subject: Option<Subject<'a>>,
+    pub(crate) notes: Option<Vec<Note>>,
 }
 
 impl<'a> Replied<'a> {
@@ -75,6 +81,18 @@ impl<'a> Replied<'a> {
         Replied {
             reply,
             subject: None,
+            notes: None,
+        }
+    }
+
+    /// No document is refused by it, and this is advised.
+    pub(crate) fn advised(reply: Reply, notes: Vec<Note>) -> Replied<'a>
+        ensures reply { result.reply ≡ reply }
+    {
+        Replied {
+            reply,
+            subject: None,
+            notes: Some(notes),
         }
     }
 
@@ -87,7 +105,11 @@ impl<'a> Replied<'a> {
         } else {
             None
         };
-        Replied { reply, subject }
+        Replied {
+            reply,
+            subject,
+            notes: None,
+        }
     }
 }
 
@@ -162,12 +184,19 @@ pub(crate) fn give_replied<'a, W: Sink>(
         (W.contents w.old) (W.contents w.new) (W.failed w.new) result.status) }
 {
     match answer {
-        Ok(Replied { reply, subject }) => {
+        Ok(
+            Replied {
+                reply,
+                subject,
+                notes,
+            },
+        ) => {
             let cause = reply.cause;
             Ran {
                 status: give(w, Ok(reply)),
                 cause,
                 subject,
+                notes,
             }
         }
         Err(_) => Ran::bare(lack_memory(w)),

@@ -1,7 +1,7 @@
 //! What the answer to a token needs beside the verdict.
 ghost use Rattle.std.specs.Prelude.{◌≡◌};
 ghost use Rattle.jwt_access.specs.Moments.{moment_under};
-ghost use Rattle.jwt_command.specs.Views.{asked_of};
+ghost use Rattle.jwt_command.specs.Views.{demands_of};
 ghost use Rattle.jwt_output.specs.verdicts.Views.{demands_view};
 
 use jwt_access::{AccessRule, Moment};
@@ -35,7 +35,7 @@ impl<'r> Telling<'r> {
 
     /// What the claims of a token that is accepted under these terms are held against.
     pub(crate) fn demands(&self, terms: &Terms<'_, '_, '_>) -> Demands<'r>
-        ensures asked { demands_view result ≡ asked_of self.now }
+        ensures asked { demands_view result ≡ demands_of self.now }
         ensures moment { result.moment ≡ moment_under terms.now.policy.now terms.now.moment }
     {
         Demands {

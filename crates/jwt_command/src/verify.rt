@@ -1,5 +1,5 @@
 //! The command `verify`: the verdict on a token by a policy and a key set.
-ghost use Rattle.std.specs.Prelude.{◌≡◌, ◌≢◌, ◌+◌, ◌⊎◌, false, true, map, option_map, IfOk, IfSome};
+ghost use Rattle.std.specs.Prelude.{◌≡◌, ◌≢◌, ◌+◌, ◌⊎◌, false, true, not, map, option_map, IfOk, IfSome};
 ghost use Rattle.jwt_keys.specs.KeySets.{key_set};
 ghost use Rattle.jwt_verify.specs.TermsTable.{terms_meant};
 ghost use Rattle.jwt_command.specs.Documents.{last_document, last_most};
@@ -7,20 +7,23 @@ ghost use Rattle.jwt_text.specs.Intake.{TakesAtMost};
 ghost use Rattle.jwt_command.specs.Access.{rule_in_hand, under_rule};
 ghost use Rattle.jwt_command.specs.Stops.{keys_most, token_most, verify_most};
 ghost use Rattle.jwt_output.specs.verdicts.Printer.{unless_read_failed};
-ghost use Rattle.jwt_command.specs.Verify.{keys_answer, payload_in, terms_of_keys, verify_answer};
+ghost use Rattle.jwt_mac.specs.Algorithm.{is_hmac_alg};
+ghost use Rattle.std.specs.List.{list_any};
+ghost use Rattle.jwt_command.specs.Verify.{keys_answer, payload_in, terms_of_keys, verifiers_for, verify_answer};
 ghost use Rattle.jwt_words.specs.Seen.{held_view};
 ghost use Rattle.jwt_output.specs.Views.{reply_view};
-ghost use Rattle.jwt_command.specs.Views.{rule_view, told_by};
+ghost use Rattle.jwt_command.specs.Views.{rule_view, printer_of};
 
 use crate::access::rule_in_hand;
 use crate::documents::{TakenDocument, document, read_document};
 use crate::input::line::LineFault;
+use crate::run::verifiers_if;
 use crate::subject::{Replied, TokenReply, refused_keys, refused_policy, refused_rule};
 use crate::telling::Telling;
 use jwt_access::AccessFault;
 use jwt_jws::{FormFault, Signed};
 use jwt_keys::{KeySet, KeysFault};
-use jwt_mac::{Budget, CountDown, Verifier};
+use jwt_mac::{Alg, Budget, CountDown, Verifier};
 use jwt_output::printed_read_fault;
 use jwt_output::verdicts::printed_report;
 use jwt_policy::{Policy, PolicyFault};
@@ -38,10 +41,38 @@ pub(crate) struct VerifyOptions<'v> {
     pub(crate) printing: Printing,
     /// The moment at which the claims are held against the policy.
     pub(crate) moment: Moment,
-    /// The verifiers for public keys, where they are asked for.
+    /// Whether public keys are asked for.
+    pub(crate) public_keys: bool,
+    /// The verifiers for public keys that are at hand.
     pub(crate) verifiers: &'v [Box<dyn Verifier>],
     /// What one claim of an accepted token has to be, where that is asked.
     pub(crate) expected: Option<Expectation<'v>>,
+}
+
+/// Whether one of the algorithms is for public keys.
+#[tactic(auto, using(std::proofs::lemmas::List::at_drop_more, std::proofs::lemmas::List::at_drop_all))]
+fn has_public(algs: &[Alg]) -> bool
+    ensures { result ≡ list_any (λ alg. not (is_hmac_alg alg)) algs.now }
+{
+    for alg in algs {
+        if !alg.is_hmac() {
+            return true;
+        }
+    }
+    false
+}
+
+/// The verifiers for public keys: where they are asked for, and for a token in hand also where the policy allows an algorithm by public keys.
+fn verifiers_for<'v>(
+    options: &VerifyOptions<'v>,
+    held: Held<'_>,
+    policy: &Policy,
+) -> &'v [Box<dyn Verifier>]
+    ensures { map meaning result.now ≡ verifiers_for options.now.public_keys (held_view held.entry)
+        (map meaning options.now.verifiers.now) policy.now }
+{
+    let by_public_keys = options.public_keys || held.token.is_some() && has_public(policy.algs());
+    verifiers_if(by_public_keys, options.verifiers)
 }
 
 /// The terms of a verdict at a moment.
@@ -89,7 +120,7 @@ pub(crate) fn on_octets(
     token: &[u8],
 ) -> Result<TokenReply, AllocError>
     ensures line { IfOk result (λ a. reply_view a.reply
-        ≡ (told_by telling.now.printing telling.now.expected).token (rule_view telling.now.rule)
+        ≡ (printer_of telling.now.printing telling.now.expected).token (rule_view telling.now.rule)
         (terms_meant (λ b. meaning (b.vtable, b.value)) terms.now) token.now) }
     ensures done { IfOk result (λ a. a.reply.status ≢ 3) }
 {
@@ -123,8 +154,8 @@ fn on_token<'a, R: Source>(
     r: &mut R,
 ) -> Result<Replied<'a>, AllocError>
     ensures line { IfSome (R.remaining r.old) (λ x. IfOk result (λ a. reply_view a.reply
-        ≡ unless_read_failed (told_by telling.now.printing telling.now.expected) (R.failed r.new)
-        ((told_by telling.now.printing telling.now.expected).token (rule_view telling.now.rule)
+        ≡ unless_read_failed (printer_of telling.now.printing telling.now.expected) (R.failed r.new)
+        ((printer_of telling.now.printing telling.now.expected).token (rule_view telling.now.rule)
         (terms_meant (λ b. meaning (b.vtable, b.value)) terms.now) x))) }
     ensures stops { IfSome (R.remaining r.old) (λ x. (R.failed r.new ≡ true)
         ⊎ TakesAtMost (terms.now.policy.now.run.limit + 1) x (R.remaining r.new)) }
@@ -147,8 +178,8 @@ fn on_last<'a, R: Source>(
 ) -> Result<Replied<'a>, AllocError>
     requires { R.failed r.old ≡ false }
     ensures line { IfSome (R.remaining r.old) (λ x. IfOk result (λ a. reply_view a.reply
-        ≡ unless_read_failed (told_by telling.now.printing telling.now.expected) (R.failed r.new)
-        ((told_by telling.now.printing telling.now.expected).token (rule_view telling.now.rule)
+        ≡ unless_read_failed (printer_of telling.now.printing telling.now.expected) (R.failed r.new)
+        ((printer_of telling.now.printing telling.now.expected).token (rule_view telling.now.rule)
         (terms_meant (λ b. meaning (b.vtable, b.value)) terms.now)
         (last_document (option_map (λ t. t.now) token.entry) x)))) }
     ensures stops { IfSome (R.remaining r.old) (λ x. (R.failed r.new ≡ true)
@@ -174,8 +205,8 @@ fn on_rule<'a, R: Source>(
 ) -> Result<Replied<'a>, AllocError>
     requires { R.failed r.old ≡ false }
     ensures line { IfSome (R.remaining r.old) (λ x. IfOk result (λ a. reply_view a.reply
-        ≡ unless_read_failed (told_by asked.now.printing asked.now.expected) (R.failed r.new)
-        (under_rule (told_by asked.now.printing asked.now.expected) (terms_meant (λ b. meaning (b.vtable, b.value)) terms.now)
+        ≡ unless_read_failed (printer_of asked.now.printing asked.now.expected) (R.failed r.new)
+        (under_rule (printer_of asked.now.printing asked.now.expected) (terms_meant (λ b. meaning (b.vtable, b.value)) terms.now)
         (rule_in_hand (held_view held.entry).access)
         (last_document (held_view held.entry).token x)))) }
     ensures stops { IfSome (R.remaining r.old) (λ x. (R.failed r.new ≡ true)
@@ -206,8 +237,8 @@ fn on_keys<'a, R: Source>(
     r: &mut R,
 ) -> Result<Replied<'a>, AllocError>
     ensures line { IfSome (R.remaining r.old) (λ x. IfOk result (λ a. reply_view a.reply
-        ≡ unless_read_failed (told_by options.now.printing options.now.expected) (R.failed r.new)
-        (keys_answer (told_by options.now.printing options.now.expected) (map meaning options.now.verifiers.now)
+        ≡ unless_read_failed (printer_of options.now.printing options.now.expected) (R.failed r.new)
+        (keys_answer (printer_of options.now.printing options.now.expected) (verifiers_for options.now.public_keys (held_view held.entry) (map meaning options.now.verifiers.now))
         options.now.moment.seconds (held_view held.entry) policy.now x))) }
     ensures stops { IfSome (R.remaining r.old) (λ x. (R.failed r.new ≡ true)
         ⊎ TakesAtMost (keys_most (token_most (held_view held.entry) policy.now)
@@ -230,7 +261,8 @@ fn on_keys<'a, R: Source>(
     };
     match KeySet::read(alloc, text.octets()) {
         Ok(keys) => {
-            let terms = terms_at(options.moment, options.verifiers, policy, &keys);
+            let verifiers = verifiers_for(options, held, policy);
+            let terms = terms_at(options.moment, verifiers, policy, &keys);
             let asked = Telling::of(printing, options.expected);
             on_rule(alloc, &asked, &terms, held, r)
         }
@@ -249,7 +281,7 @@ pub(crate) fn verify<'a, R: Source>(
     r: &mut R,
 ) -> Result<Replied<'a>, AllocError>
     ensures line { IfSome (R.remaining r.old) (λ x. IfOk result (λ a. reply_view a.reply
-        ≡ verify_answer (told_by options.now.printing options.now.expected) (map meaning options.now.verifiers.now)
+        ≡ verify_answer (printer_of options.now.printing options.now.expected) (verifiers_for options.now.public_keys (held_view held.entry) (map meaning options.now.verifiers.now))
         options.now.moment.seconds (held_view held.entry) (R.failed r.new) x)) }
     ensures stops { IfSome (R.remaining r.old) (λ x. (R.failed r.new ≡ true)
         ⊎ TakesAtMost (verify_most (held_view held.entry) x) x (R.remaining r.new)) }

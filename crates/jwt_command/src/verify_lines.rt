@@ -6,14 +6,14 @@ ghost use Rattle.jwt_policy.specs.Document.{policy_of};
 ghost use Rattle.jwt_command.specs.Access.{rule_in_hand};
 ghost use Rattle.jwt_command.specs.Lines.{CutReady, GivesLines, LineAnswered, MayHaveSent, SendsReady, StopsBy, with_held};
 ghost use Rattle.jwt_output.specs.Printed.{out_of_memory};
-ghost use Rattle.jwt_command.specs.RunLines.{LinesByPolicy, Printed};
+ghost use Rattle.jwt_command.specs.RunLines.{LinesByPolicy, Printed, ends};
 ghost use Rattle.jwt_settings.specs.Seen.{seconds_of};
 ghost use Rattle.jwt_words.specs.Seen.{lines_view, held_view};
 ghost use Rattle.jwt_words.specs.Words.{VerifyLines};
 ghost use Rattle.jwt_command.specs.Runs.{RunsInHand};
 ghost use Rattle.jwt_command.specs.TakenLines.{after_line, first_line};
 ghost use Rattle.jwt_output.specs.verdicts.Printer.{printer};
-ghost use Rattle.jwt_command.specs.Views.{rule_view, told_by};
+ghost use Rattle.jwt_command.specs.Views.{rule_view, printer_of};
 ghost use Rattle.jwt_command.specs.Verify.{terms_of_keys};
 
 use crate::access::rule_in_hand;
@@ -22,7 +22,7 @@ pub use crate::clock::{Clock, NoClock};
 use crate::documents::TakenDocument;
 use crate::input::buffered::Ahead;
 use crate::input::line::LineFault;
-use crate::run::{AtHand, asked_for};
+use crate::run::{AtHand, verifiers_if};
 use crate::subject::{
     Ran, give_alone, give_no_memory, give_replied, refused_keys, refused_policy, refused_rule,
 };
@@ -75,7 +75,7 @@ fn answer_line<C: Clock>(
     ready: &mut Vec<u8>,
 ) -> Result<(), LineFault>
     ensures answered { OnOk result (LineAnswered
-        (λ m l. (told_by shared.now.telling.printing shared.now.telling.expected).token (rule_view shared.now.telling.rule)
+        (λ m l. (printer_of shared.now.telling.printing shared.now.telling.expected).token (rule_view shared.now.telling.rule)
         (terms_of_keys (map meaning shared.now.verifiers.now) m shared.now.policy.now
         (key_set shared.now.keys.now)) l)
         (C.says line.now.number line.now.octets.now) (seconds_of shared.now.moment)
@@ -195,10 +195,10 @@ fn answer_lines<R: Source, W: Sink, C: Clock>(
     w: &mut W,
 ) -> u8
     ensures { IfSome (R.remaining r.old) (λ x. GivesLines
-        (λ m l. (told_by shared.now.telling.printing shared.now.telling.expected).token (rule_view shared.now.telling.rule)
+        (λ m l. (printer_of shared.now.telling.printing shared.now.telling.expected).token (rule_view shared.now.telling.rule)
         (terms_of_keys (map meaning shared.now.verifiers.now) m shared.now.policy.now
         (key_set shared.now.keys.now)) l)
-        (told_by shared.now.telling.printing shared.now.telling.expected).read_failed
+        (printer_of shared.now.telling.printing shared.now.telling.expected).read_failed
         (with_held shared.now.policy.now.run.limit C.says) (seconds_of shared.now.moment) x
         (R.failed r.new)
         (W.contents w.old) (W.contents w.new) (W.failed w.new) result) }
@@ -261,23 +261,13 @@ fn lines_in_hand<'a, R: Source, W: Sink, C: Clock>(
 ) -> Ran<'a>
     ensures answer { IfSome (R.remaining r.old) (λ x.
         Printed out_of_memory
-        (record {
-          before = W.contents w.old;
-          after = W.contents w.new;
-          failed = W.failed w.new;
-          status = result.status;
-        })
-        ⊎ LinesByPolicy (told_by lines.now.printing lines.now.expected) (map meaning lines.now.verifiers.now) C.says
+        (ends (W.contents w.old) (W.contents w.new) (W.failed w.new) result.status)
+        ⊎ LinesByPolicy (printer_of lines.now.printing lines.now.expected) (map meaning lines.now.verifiers.now) C.says
         (seconds_of lines.now.moment) (policy_of lines.now.policy.now)
         (key_set_of lines.now.keys.now)
         (rule_in_hand (option_map (λ t. t.now) lines.now.access)) x
         (R.failed r.new)
-        (record {
-          before = W.contents w.old;
-          after = W.contents w.new;
-          failed = W.failed w.new;
-          status = result.status;
-        })) }
+        (ends (W.contents w.old) (W.contents w.new) (W.failed w.new) result.status)) }
 {
     let printing = lines.printing;
     let policy = match Policy::read(alloc, lines.policy) {
@@ -314,6 +304,7 @@ fn lines_in_hand<'a, R: Source, W: Sink, C: Clock>(
                 status: answer_lines(alloc, &shared, clock, r, w),
                 cause: Cause::None,
                 subject: None,
+                notes: None,
             }
         }
         Err(AccessFault::OutOfMemory) => give_no_memory(w),
@@ -340,21 +331,11 @@ pub(crate) fn run_lines<'a, R: Source, W: Sink, C: Clock>(
 ) -> Ran<'a>
     ensures answer { IfSome (R.remaining r.old) (λ x.
         Printed out_of_memory
-        (record {
-          before = W.contents w.old;
-          after = W.contents w.new;
-          failed = W.failed w.new;
-          status = result.status;
-        })
+        (ends (W.contents w.old) (W.contents w.new) (W.failed w.new) result.status)
         ⊎ RunsInHand (map meaning asked.now.at_hand.built_in.now) C.says
         (held_view asked.now.at_hand.held) (VerifyLines (lines_view asked.now.order)) x
         (R.failed r.new)
-        (record {
-          before = W.contents w.old;
-          after = W.contents w.new;
-          failed = W.failed w.new;
-          status = result.status;
-        })) }
+        (ends (W.contents w.old) (W.contents w.new) (W.failed w.new) result.status)) }
 {
     let LinesAsked { order, at_hand } = *asked;
     let held = at_hand.held;
@@ -364,7 +345,7 @@ pub(crate) fn run_lines<'a, R: Source, W: Sink, C: Clock>(
                 let lines = LinesInHand {
                     printing: order.printing,
                     moment: order.now,
-                    verifiers: asked_for(order.public_keys, at_hand.built_in),
+                    verifiers: verifiers_if(order.public_keys, at_hand.built_in),
                     policy,
                     keys,
                     access: held.access,

@@ -1,5 +1,6 @@
 //! Wrong words, and those that ask for the version.
 use crate::runs::{assert_ran, assert_rows, ran_on};
+use jwt_command::VERSION;
 use jwt_support::examples::TOKEN_A;
 use jwt_support::streams::Drip;
 use std::test::Fail;
@@ -47,8 +48,7 @@ fn wrong_words_print_what_clap_says(rt: HostRuntime) -> Result<(), Fail> {
 fn the_version_is_printed_and_nothing_read(rt: HostRuntime) -> Result<(), Fail> {
     let mut source = Drip::new(TOKEN_A.as_bytes(), 0);
     let found = ran_on(rt.alloc(), &["jwt", "--version"], &mut source)?;
-    let line = "jwt 0.1.0, proved with rattle-kit-13f logic dac8208d650f15bf";
-    assert_ran(&rt, rt.alloc(), &found, &[line], 0)?;
+    assert_ran(&rt, rt.alloc(), &found, &[VERSION], 0)?;
     assert!(rt; !source.failed);
     Ok(())
 }

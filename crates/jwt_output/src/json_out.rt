@@ -136,14 +136,6 @@ impl JsonOut {
         self.writer.string(value)
     }
 
-    /// A name with a text, where there is one.
-    pub fn some_text(&mut self, name: &str, value: Option<&str>) -> Result<(), AllocError> {
-        match value {
-            Some(text) => self.text(name, text),
-            None => Ok(()),
-        }
-    }
-
     /// A name with a whole number.
     pub fn count(&mut self, name: &str, value: u64) -> Result<(), AllocError>
         ensures { OnOk result (self.new ≡ self.old ++ named_tokens (count name.now value ∷ [])) }
@@ -161,7 +153,7 @@ impl JsonOut {
     }
 
     /// A name with a value: member by member, and digit by digit.
-    pub fn tree(&mut self, name: &str, value: &Value<'_>) -> Result<(), AllocError>
+    fn tree(&mut self, name: &str, value: &Value<'_>) -> Result<(), AllocError>
         requires { HasNumbers (value_view value.now) }
         ensures { OnOk result (self.new
             ≡ self.old ++ named_tokens ((name.now, value_view value.now) ∷ [])) }

@@ -1,62 +1,47 @@
-//! The lines of a key set.
+//! The entries of a key set, in lines or in JSON.
 ghost use Rattle.std.specs.Prelude.{◌≡◌, ◌≤◌, length, IfOk};
 
-use crate::json_keys::keys_json;
-use crate::pieces::{put_labelled, quoted_or_dash};
+use crate::fields::{FieldName, FieldValue, Fields, Listing};
 use crate::reply::Reply;
 use jwt_keys::{Key, KeySet, Skip};
 use jwt_mac::KeyView;
 use jwt_settings::Printing;
 use std::alloc::{AllocError, Global};
 
-/// The `kty` of a key.
-pub(crate) fn kty_of(view: KeyView<'_>) -> &'static str {
+/// The `kty` of a key, and how many octets `k` has, or `n` as spelled, or `x`.
+fn kind_of(view: KeyView<'_>) -> (&'static str, usize) {
     match view {
-        KeyView::Oct { .. } => "oct",
-        KeyView::Rsa { .. } => "RSA",
-        KeyView::Ec { .. } => "EC",
-        KeyView::Okp { .. } => "OKP",
+        KeyView::Oct { k } => ("oct", k.len()),
+        KeyView::Rsa { n, .. } => ("RSA", n.len()),
+        KeyView::Ec { x, .. } => ("EC", x.len()),
+        KeyView::Okp { x, .. } => ("OKP", x.len()),
     }
 }
 
-/// How many octets `k` has, or `n` as spelled, or `x`.
-pub(crate) fn size_of(view: KeyView<'_>) -> usize {
-    match view {
-        KeyView::Oct { k } => k.len(),
-        KeyView::Rsa { n, .. } => n.len(),
-        KeyView::Ec { x, .. } => x.len(),
-        KeyView::Okp { x, .. } => x.len(),
-    }
+/// Puts a key.
+fn put_key(alloc: Global, out: &mut Listing, number: u32, key: &Key) -> Result<(), AllocError> {
+    let (kty, size) = kind_of(key.view());
+    let mut fields = Fields::none(alloc);
+    fields.count(FieldName::Place, u64::from(key.place()))?;
+    fields.word(FieldName::Kty, kty)?;
+    fields.maybe(out.printing(), FieldName::Kid, key.kid())?;
+    fields.maybe(out.printing(), FieldName::Alg, key.alg_text())?;
+    fields.count(FieldName::Size, size as u64)?;
+    fields.put(
+        FieldName::Thumbprint,
+        FieldValue::Word(key.thumbprint_text()),
+    )?;
+    let head = format!(in alloc; "key={number}")?;
+    out.row(alloc, head.as_str(), &fields)
 }
 
-/// Puts the line of one key.
-fn put_key(alloc: Global, out: &mut Vec<u8>, number: u32, key: &Key) -> Result<(), AllocError> {
-    let place = key.place();
-    let kty = kty_of(key.view());
-    let size = size_of(key.view());
-    let start = format!(in alloc; "key={number} place={place} kty={kty} kid=")?;
-    let kid = quoted_or_dash(alloc, key.kid())?;
-    let alg = quoted_or_dash(alloc, key.alg_text())?;
-    let size = format!(in alloc; " size={size} thumbprint=")?;
-    put_labelled(out, start.as_str(), kid.as_slice())?;
-    put_labelled(out, " alg=", alg.as_slice())?;
-    put_labelled(out, size.as_str(), key.thumbprint())?;
-    out.push(b'\n')?;
-    Ok(())
-}
-
-/// Puts the line of one skipped entry.
-fn put_skip(alloc: Global, out: &mut Vec<u8>, skip: &Skip) -> Result<(), AllocError> {
-    let place = skip.place;
-    let reason = skip.reason.name();
-    let line = format!(in alloc; "skip place={place} {reason}\n")?;
-    out.extend_from_slice(line.as_bytes())
-}
-
-/// Puts a line for each skipped entry.
-fn put_skips(alloc: Global, out: &mut Vec<u8>, skips: &[Skip]) -> Result<(), AllocError> {
+/// Puts skipped entries.
+fn put_skips(alloc: Global, out: &mut Listing, skips: &[Skip]) -> Result<(), AllocError> {
     for skip in skips {
-        put_skip(alloc, out, skip)?;
+        let mut fields = Fields::none(alloc);
+        fields.count(FieldName::Place, u64::from(skip.place))?;
+        fields.word(FieldName::Reason, skip.reason.name())?;
+        out.row(alloc, "skip", &fields)?;
     }
     Ok(())
 }
@@ -73,29 +58,31 @@ fn before(place: u32, skips: &[Skip]) -> usize
     skips.len()
 }
 
-/// The lines of a key set, in the order of places.
-fn set_lines(alloc: Global, set: &KeySet) -> Result<Vec<u8>, AllocError> {
-    let mut out = Vec::new(alloc);
+/// Puts the entries of a key set: lines stand in the order of places, and JSON has a list of keys and one of what is skipped.
+fn put_entries(alloc: Global, out: &mut Listing, set: &KeySet) -> Result<(), AllocError> {
     let mut skips = set.skipped();
+    out.begin_list("keys")?;
     for number in 0..set.len() {
         if let Some(key) = set.key(number) {
-            let (first, rest) = skips.split_at(before(key.place(), skips));
-            put_skips(alloc, &mut out, first)?;
-            put_key(alloc, &mut out, number, key)?;
-            skips = rest;
+            if matches!(out.printing(), Printing::Lines) {
+                let (first, rest) = skips.split_at(before(key.place(), skips));
+                put_skips(alloc, out, first)?;
+                skips = rest;
+            }
+            put_key(alloc, out, number, key)?;
         }
     }
-    put_skips(alloc, &mut out, skips)?;
-    Ok(out)
+    out.end_list()?;
+    out.begin_list("skipped")?;
+    put_skips(alloc, out, skips)?;
+    out.end_list()
 }
 
 /// The answer of a key set, in JSON or in lines.
 pub fn printed_set(alloc: Global, printing: Printing, set: &KeySet) -> Result<Reply, AllocError>
     ensures { IfOk result (λ a. a.status ≡ 0) }
 {
-    let text = match printing {
-        Printing::Json => keys_json(alloc, set)?,
-        Printing::Lines => set_lines(alloc, set)?,
-    };
-    Ok(Reply::of(text, 0))
+    let mut out = Listing::new(alloc, printing)?;
+    put_entries(alloc, &mut out, set)?;
+    Ok(Reply::of(out.text()?, 0))
 }

@@ -5,7 +5,6 @@
 #![tactic(auto)]
 
 pub mod fields;
-mod json_keys;
 mod json_out;
 mod json_show;
 mod jwk;

@@ -1,23 +1,18 @@
 //! A token for a person.
-ghost use Rattle.std.specs.Prelude.{◌≡◌, IfOk, IfSome};
+ghost use Rattle.std.specs.Prelude.{◌≡◌, IfOk};
 ghost use Rattle.json.specs.Tree.{HasNumbers};
 ghost use Rattle.json.specs.Value.{value_view};
 
 use crate::json_out::value_in;
-use crate::json_show::{header_at, spelled_octets};
+use crate::json_show::{header_of, protected_of};
 use crate::reply::Reply;
 use crate::show::{form_name, put_refused_claims};
 use crate::terminal::{date_text, push_quoted, shown_json};
-use json::{Scratch, Value, to_vec};
-use jwt_jws::{Form, Signature, Signed};
+use json::{Scratch, Value};
+use jwt_jws::{Signature, Signed};
 use jwt_policy::{ClaimFault, Claims};
 use jwt_settings::Moment;
 use std::alloc::{AllocError, Global};
-
-/// A text as it stands.
-fn put_text(out: &mut String, text: &str) -> Result<(), AllocError> {
-    out.push_str(text)
-}
 
 /// The JSON value that octets are, laid out.
 fn put_json(alloc: Global, out: &mut String, octets: &[u8]) -> Result<(), AllocError> {
@@ -30,76 +25,38 @@ fn put_json(alloc: Global, out: &mut String, octets: &[u8]) -> Result<(), AllocE
     }
 }
 
-/// The algorithm of a signature.
-fn put_alg(out: &mut String, there: bool, alg: Option<&str>) -> Result<(), AllocError> {
-    match alg {
-        Some(alg) => push_quoted(out, alg),
-        None if there => out.push_str("?"),
-        None => out.push_str("-"),
+/// A header behind its name, where there is one.
+fn put_header(
+    alloc: Global,
+    out: &mut String,
+    name: &str,
+    header: &Option<Vec<u8>>,
+) -> Result<(), AllocError> {
+    if let Some(octets) = header {
+        out.push_str(name)?;
+        put_json(alloc, out, octets.as_slice())?;
     }
-}
-
-/// The protected header, where its text isn't empty.
-fn put_protected(alloc: Global, out: &mut String, text: &[u8]) -> Result<(), AllocError> {
-    if text.is_empty() {
-        return Ok(());
-    }
-    let octets = spelled_octets(alloc, text)?;
-    out.push_str("protected\n")?;
-    put_json(alloc, out, octets.as_slice())
-}
-
-/// An unprotected header.
-fn put_value(alloc: Global, out: &mut String, header: &Value<'_>) -> Result<(), AllocError>
-    requires { HasNumbers (value_view header.now) }
-{
-    let octets = to_vec(alloc, header)?;
-    out.push_str("header\n")?;
-    put_json(alloc, out, octets.as_slice())
-}
-
-/// The unprotected header, where there is one.
-fn put_header(alloc: Global, out: &mut String, header: Option<&Value<'_>>) -> Result<(), AllocError>
-    requires { IfSome header (λ v. HasNumbers (value_view v.now)) }
-{
-    match header {
-        Some(header) => put_value(alloc, out, header),
-        None => Ok(()),
-    }
+    Ok(())
 }
 
 /// The algorithm of signature `i`, and how many octets it has.
-fn put_signature_start(
+fn put_alg(
     alloc: Global,
     out: &mut String,
     i: u32,
     signature: &Signature<'_>,
 ) -> Result<(), AllocError> {
-    let start = format!(in alloc; "sig={i} alg=")?;
+    out.push_str(format!(in alloc; "sig={i} alg=")?.as_str())?;
+    match signature.alg_text() {
+        Some(alg) => push_quoted(out, alg)?,
+        None if signature.protected().has("alg") => out.push_str("?")?,
+        None => out.push_str("-")?,
+    }
     let octets = signature.octets().len();
-    let end = format!(in alloc; " octets={octets}\n")?;
-    put_text(out, start.as_str())?;
-    put_alg(out, signature.protected().has("alg"), signature.alg_text())?;
-    put_text(out, end.as_str())
+    out.push_str(format!(in alloc; " octets={octets}\n")?.as_str())
 }
 
-/// Signature `i`, with its headers.
-fn put_signature(
-    alloc: Global,
-    out: &mut String,
-    i: u32,
-    signature: &Signature<'_>,
-    header: Option<&Value<'_>>,
-) -> Result<(), AllocError>
-    requires { IfSome header (λ v. HasNumbers (value_view v.now)) }
-{
-    put_signature_start(alloc, out, i, signature)?;
-    put_protected(alloc, out, signature.protected_text())?;
-    put_header(alloc, out, header)?;
-    put_text(out, "not verified\n")
-}
-
-/// The signatures.
+/// The signatures, with their headers.
 fn put_signatures(
     alloc: Global,
     out: &mut String,
@@ -110,8 +67,12 @@ fn put_signatures(
 {
     for i in 0..signed.count() {
         if let Some(signature) = signed.signature(i) {
-            let header = header_at(signed.form(), document, i);
-            put_signature(alloc, out, i, signature, header)?;
+            let protected = protected_of(alloc, signature)?;
+            let header = header_of(alloc, signed.form(), document, i)?;
+            put_alg(alloc, out, i, signature)?;
+            put_header(alloc, out, "protected\n", &protected)?;
+            put_header(alloc, out, "header\n", &header)?;
+            out.push_str("not verified\n")?;
         }
     }
     Ok(())
@@ -120,49 +81,9 @@ fn put_signatures(
 /// The payload.
 fn put_payload(alloc: Global, out: &mut String, payload: &[u8]) -> Result<(), AllocError> {
     let octets = payload.len();
-    let start = format!(in alloc; "payload octets={octets}\n")?;
-    put_text(out, start.as_str())?;
+    out.push_str(format!(in alloc; "payload octets={octets}\n")?.as_str())?;
     put_json(alloc, out, payload)?;
-    put_text(out, "not verified\n")
-}
-
-/// The texts of the dates of claims.
-#[derive(Drop)]
-pub(crate) struct DateTexts {
-    exp: Option<String>,
-    iat: Option<String>,
-    nbf: Option<String>,
-}
-
-/// The date of a number, where there is one.
-fn date_of(alloc: Global, seconds: Option<i64>) -> Result<Option<String>, AllocError> {
-    match seconds {
-        Some(seconds) => date_text(alloc, seconds),
-        None => Ok(None),
-    }
-}
-
-/// The texts of the dates of claims.
-fn dates_of(alloc: Global, claims: &Claims) -> Result<DateTexts, AllocError> {
-    let exp = date_of(alloc, claims.exp())?;
-    let iat = date_of(alloc, claims.iat())?;
-    let nbf = date_of(alloc, claims.nbf())?;
-    Ok(DateTexts { exp, iat, nbf })
-}
-
-/// A number, with its date where it has one.
-fn put_number(
-    alloc: Global,
-    out: &mut Vec<u8>,
-    name: &str,
-    seconds: i64,
-    date: &Option<String>,
-) -> Result<(), AllocError> {
-    let line = match date {
-        Some(date) => format!(in alloc; "{name}{seconds} {date}\n")?,
-        None => format!(in alloc; "{name}{seconds}\n")?,
-    };
-    out.extend_from_slice(line.as_bytes())
+    out.push_str("not verified\n")
 }
 
 /// The line of a date, where there is one.
@@ -171,95 +92,48 @@ fn put_date(
     out: &mut Vec<u8>,
     name: &str,
     seconds: Option<i64>,
-    date: &Option<String>,
 ) -> Result<(), AllocError> {
-    match seconds {
-        Some(seconds) => put_number(alloc, out, name, seconds, date),
-        None => Ok(()),
-    }
-}
-
-/// The lines of the dates of claims.
-fn put_dates(
-    alloc: Global,
-    out: &mut Vec<u8>,
-    claims: &Claims,
-    dates: &DateTexts,
-) -> Result<(), AllocError> {
-    put_date(alloc, out, "exp=", claims.exp(), &dates.exp)?;
-    put_date(alloc, out, "iat=", claims.iat(), &dates.iat)?;
-    put_date(alloc, out, "nbf=", claims.nbf(), &dates.nbf)
-}
-
-/// The line of what is left of a life at a moment.
-fn life_text(alloc: Global, now: u64, exp: i64) -> Result<String, AllocError> {
-    let now = i128::from(now);
-    let exp = i128::from(exp);
-    if now < exp {
-        let left = exp - now;
-        format!(in alloc; "left seconds={left}\n")
-    } else {
-        let past = now - exp;
-        format!(in alloc; "expired seconds={past}\n")
-    }
+    let Some(seconds) = seconds else {
+        return Ok(());
+    };
+    let line = match date_text(alloc, seconds)? {
+        Some(date) => format!(in alloc; "{name}={seconds} {date}\n")?,
+        None => format!(in alloc; "{name}={seconds}\n")?,
+    };
+    out.extend_from_slice(line.as_bytes())
 }
 
 /// What is left of a life at a moment.
-fn put_life(alloc: Global, out: &mut Vec<u8>, now: u64, exp: i64) -> Result<(), AllocError> {
-    let line = life_text(alloc, now, exp)?;
-    out.extend_from_slice(line.as_bytes())?;
-    Ok(())
+fn put_life(alloc: Global, out: &mut Vec<u8>, now: Moment, exp: i64) -> Result<(), AllocError> {
+    let left = i128::from(exp) - i128::from(now.seconds);
+    let line = if left > 0 {
+        format!(in alloc; "left seconds={left}\n")?
+    } else {
+        let past = -left;
+        format!(in alloc; "expired seconds={past}\n")?
+    };
+    out.extend_from_slice(line.as_bytes())
 }
 
-/// The same, where there is a moment and an end.
-fn put_life_if(
-    alloc: Global,
-    out: &mut Vec<u8>,
-    now: Option<Moment>,
-    exp: Option<i64>,
-) -> Result<(), AllocError> {
-    match (now, exp) {
-        (Some(now), Some(exp)) => put_life(alloc, out, now.seconds, exp),
-        _ => Ok(()),
-    }
-}
-
-/// The dates of claims, and what is left of their life.
-fn put_claims(
-    alloc: Global,
-    out: &mut Vec<u8>,
-    now: Option<Moment>,
-    claims: &Claims,
-) -> Result<(), AllocError> {
-    let dates = dates_of(alloc, claims)?;
-    put_dates(alloc, out, claims, &dates)?;
-    put_life_if(alloc, out, now, claims.exp())
-}
-
-/// The line of claims that are refused before any policy is looked at.
-fn put_refused(alloc: Global, out: &mut Vec<u8>, fault: &ClaimFault<'_>) -> Result<(), AllocError> {
-    put_refused_claims(alloc, out, fault)
-}
-
-/// What the claims of a payload say of its time.
+/// What the claims of a payload say of its time, or why they are refused before any policy is looked at.
 fn put_time(
     alloc: Global,
     out: &mut Vec<u8>,
     now: Option<Moment>,
     payload: &[u8],
 ) -> Result<(), AllocError> {
-    match Claims::read(alloc, payload) {
-        Ok(claims) => put_claims(alloc, out, now, &claims),
-        Err(ClaimFault::OutOfMemory) => Err(AllocError),
-        Err(fault) => put_refused(alloc, out, &fault),
+    let claims = match Claims::read(alloc, payload) {
+        Ok(claims) => claims,
+        Err(ClaimFault::OutOfMemory) => return Err(AllocError),
+        Err(fault) => return put_refused_claims(alloc, out, &fault),
+    };
+    put_date(alloc, out, "exp", claims.exp())?;
+    put_date(alloc, out, "iat", claims.iat())?;
+    put_date(alloc, out, "nbf", claims.nbf())?;
+    match (now, claims.exp()) {
+        (Some(now), Some(exp)) => put_life(alloc, out, now, exp),
+        _ => Ok(()),
     }
-}
-
-/// The first line.
-fn put_start(alloc: Global, out: &mut String, form: Form) -> Result<(), AllocError> {
-    let form = form_name(form);
-    let line = format!(in alloc; "unverified {form}\n")?;
-    put_text(out, line.as_str())
 }
 
 /// What stands in a token of these octets, for a person: its headers and its payload, each a JSON value on lines of its own in which no
@@ -274,8 +148,8 @@ pub fn pretty_token(
 {
     let mut scratch = Scratch::new(alloc);
     let document = value_in(alloc, octets, &mut scratch)?;
-    let mut out = String::new(alloc);
-    put_start(alloc, &mut out, signed.form())?;
+    let form = form_name(signed.form());
+    let mut out = format!(in alloc; "unverified {form}\n")?;
     put_signatures(alloc, &mut out, signed, &document)?;
     put_payload(alloc, &mut out, signed.payload())?;
     let mut text = out.into_bytes();

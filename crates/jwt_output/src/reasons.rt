@@ -3,6 +3,7 @@
 //! [`policy_reason`], [`keys_reason`], [`access_reason`] and [`token_reason`] give the [`Reason`] why a document is refused, by the fault that
 //! was found in it; where its text can't be JSON, or a name stands twice, it has the [`Position`]. No octet of a
 //! key set is in one, and of a token only the recipients that [`claims_detail`] names. What they say is tested alone.
+mod advice;
 mod answers;
 mod cause;
 mod detail;
@@ -13,6 +14,7 @@ mod reasons;
 mod scan;
 mod sentences;
 
+pub(crate) use answers::advice_sentence;
 pub use answers::{around_token, token_sentences};
 pub use cause::Cause;
 pub use detail::claims_detail;

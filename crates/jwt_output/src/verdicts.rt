@@ -1,12 +1,11 @@
 //! The output of the command `jwt` for what is judged: lines and JSON of a verdict, with or without an access rule and what is expected of a claim, and of what a policy means.
 mod demands;
 mod denied;
-mod json_meant;
 pub mod laws;
 mod meant;
 mod members;
 mod verdict;
 
 pub use demands::Demands;
-pub use meant::printed_policy;
+pub use meant::{explained_note, printed_policy};
 pub use verdict::printed_report;

@@ -13,7 +13,7 @@ mod words;
 use crate::files::{input_of, octets, read_files, token_octets};
 use crate::moments::{System, moment};
 use crate::saying::{
-    issues, moment_of, reads_der, say_hint, say_how_to_go_on, say_sentences,
+    issues, moment_of, reads_der, say_advice, say_hint, say_how_to_go_on, say_sentences,
     say_what_is_waited_for, say_which_line, say_why_refused, say_wrong,
 };
 use crate::words::{Spelled, as_meant};
@@ -142,6 +142,7 @@ fn run_words<R: Source, W: Sink>(
     let now = moment_of(&asked);
     let der = reads_der(&asked);
     let ran = run_read(rt.alloc(), asked, &at_hand, &mut moments, r, w);
+    say_advice(rt, reads.printing, &ran);
     match (ran.status, &ran.subject) {
         (1, Some(subject)) => {
             say_why_refused(rt, reads.printing, subject, now, ran.cause);

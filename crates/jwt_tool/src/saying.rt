@@ -1,6 +1,6 @@
 //! What is said on standard error. What becomes of it changes nothing.
 use jwt_command::documents::Held;
-use jwt_command::subject::Subject;
+use jwt_command::subject::{Ran, Subject};
 use jwt_command::{Command, WordsFault};
 use jwt_jws::FormFault;
 use jwt_output::reasons::{
@@ -8,10 +8,12 @@ use jwt_output::reasons::{
     token_reason, token_sentences,
 };
 use jwt_output::terminal::push_quoted;
+use jwt_output::verdicts::explained_note;
 use jwt_policy::PolicyFault;
 use jwt_settings::{Moment, Printing};
 use std::alloc::AllocError;
 use std::io::IsTerminal;
+use std::str;
 
 /// A document by its name in JSON, and in words.
 type Document = (&'static str, &'static str);
@@ -211,4 +213,24 @@ pub fn say_hint(rt: &HostRuntime, words: &[&str]) {
         _ => return,
     };
     let _ = eprintln!(rt; "jwt: {hint}");
+}
+
+/// Says of each advice what it says and what to write.
+pub fn say_advice(rt: &HostRuntime, printing: Printing, ran: &Ran<'_>) {
+    let Some(notes) = &ran.notes else {
+        return;
+    };
+    for note in notes {
+        if let Ok(reply) = explained_note(rt.alloc(), printing, *note) {
+            let text = str::from_utf8(reply.text.as_slice()).unwrap_or("");
+            match printing {
+                Printing::Json => {
+                    let _ = eprint!(rt; "{text}");
+                }
+                Printing::Lines => {
+                    let _ = eprint!(rt; "jwt: advice{text}");
+                }
+            }
+        }
+    }
 }

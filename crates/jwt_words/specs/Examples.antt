@@ -56,11 +56,12 @@ pub record Examples : Type 0 where
   pub jwk_two_kids : command_of None (codes "jwt" ∷ codes "jwk" ∷ codes "--kid" ∷ codes "a" ∷ codes "--kid-thumbprint" ∷ []) ≡ None
   pub jwk_alg_of_secrets : command_of None (codes "jwt" ∷ codes "jwk" ∷ codes "--alg" ∷ codes "HS256" ∷ []) ≡ None
   pub jwk_lines : command_of None (codes "jwt" ∷ codes "jwk" ∷ codes "--lines" ∷ []) ≡ None
-  pub new_secret : command_of None (codes "jwt" ∷ codes "jwk" ∷ codes "--new" ∷ codes "HS384" ∷ codes "--bare" ∷ []) ≡ Some (NewSecret (record { printing = Lines; bare = true; alg = HS384; files = no_files }))
+  pub new_secret : command_of None (codes "jwt" ∷ codes "jwk" ∷ codes "--new" ∷ codes "HS384" ∷ codes "--bare" ∷ []) ≡ Some (NewSecret (record { printing = Lines; bare = true; alg = HS384; kid = None; files = no_files }))
   pub new_public_key : command_of None (codes "jwt" ∷ codes "jwk" ∷ codes "--new" ∷ codes "RS256" ∷ []) ≡ None
   pub new_secret_of_a_file : command_of None (codes "jwt" ∷ codes "jwk" ∷ codes "--new" ∷ codes "HS256" ∷ codes "--file" ∷ codes "k" ∷ []) ≡ None
   pub new_secret_with_a_kid : command_of None (codes "jwt" ∷ codes "jwk" ∷ codes "--new" ∷ codes "HS256" ∷ codes "--kid" ∷ codes "k" ∷ []) ≡ None
-  pub secret_of_a_file : command_of None (codes "jwt" ∷ codes "jwk" ∷ codes "--secret" ∷ codes "k" ∷ codes "--alg" ∷ codes "HS256" ∷ []) ≡ Some (NewSecret (record { printing = Lines; bare = false; alg = HS256; files = record no_files { key = Some (codes "k") } }))
+  pub secret_of_a_file : command_of None (codes "jwt" ∷ codes "jwk" ∷ codes "--secret" ∷ codes "k" ∷ codes "--alg" ∷ codes "HS256" ∷ []) ≡ Some (NewSecret (record { printing = Lines; bare = false; alg = HS256; kid = None; files = record no_files { key = Some (codes "k") } }))
+  pub secret_with_a_kid : command_of None (codes "jwt" ∷ codes "jwk" ∷ codes "--secret" ∷ codes "k" ∷ codes "--kid" ∷ codes "a" ∷ codes "--alg" ∷ codes "HS256" ∷ []) ≡ Some (NewSecret (record { printing = Lines; bare = false; alg = HS256; kid = Some (codes "a"); files = record no_files { key = Some (codes "k") } }))
   pub secret_of_no_alg : command_of None (codes "jwt" ∷ codes "jwk" ∷ codes "--secret" ∷ codes "k" ∷ []) ≡ None
   pub secret_for_public_keys : command_of None (codes "jwt" ∷ codes "jwk" ∷ codes "--secret" ∷ codes "k" ∷ codes "--alg" ∷ codes "RS256" ∷ []) ≡ None
   pub policy_alone : command_of None (codes "jwt" ∷ codes "policy" ∷ codes "--policy=p" ∷ []) ≡ Some (Policy (record { printing = Lines; files = record no_files { policy = Some (codes "p") } }))

@@ -34,7 +34,7 @@ abbrev pub jwk_view : CodeJwk → JwkOrder
 jwk_view o = record { printing = o.printing; der = o.der; bare = o.bare; kid = kid_view o.kid; alg = option_map (λ t. t.now) o.alg; files = files_view o.files }
 
 abbrev pub secret_view : CodeSecret → SecretOrder
-secret_view o = record { printing = o.printing; bare = o.bare; alg = o.alg; files = files_view o.files }
+secret_view o = record { printing = o.printing; bare = o.bare; alg = o.alg; kid = option_map (λ t. t.now) o.kid; files = files_view o.files }
 
 abbrev pub policy_view : CodePolicy → PolicyOrder
 policy_view o = record { printing = o.printing; files = files_view o.files }

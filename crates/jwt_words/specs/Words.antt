@@ -53,11 +53,13 @@ pub record JwkOrder : Type 0 where
   pub alg : Option Text
   pub files : Files
 
--- what `jwk --new` and `jwk --secret` ask for: a new secret, or that of a file, for this algorithm, in a key set, or its JWK alone
+-- what `jwk --new` and `jwk --secret` ask for: a new secret, or that of a file, for this algorithm, in a key set, or its JWK alone, with this
+-- `kid`, or else its thumbprint
 pub record SecretOrder : Type 0 where
   pub printing : Printing
   pub bare : Bool
   pub alg : Alg
+  pub kid : Option Text
   pub files : Files
 
 -- what `policy` asks for: the file of the policy, and that of a key set, if any
@@ -225,16 +227,16 @@ secret_alg alg = if is_hmac_alg alg then Some alg else None
 abbrev pub secret_alg_in : Text → List Row → Option Alg
 secret_alg_in name rows = option_and_then secret_alg (option_and_then alg_named (first_of name rows))
 
--- options that a secret has no use for: those of an input, and of `kid`, which is its own
+-- options that a secret has no use for: those of an input, and the `kid` that it has anyhow
 abbrev pub asks_of_public_keys : List Row → Bool
-asks_of_public_keys rows = is_named (codes "file") rows || (is_set (codes "der") rows || (is_named (codes "kid") rows || is_set (codes "kid-thumbprint") rows))
+asks_of_public_keys rows = is_named (codes "file") rows || (is_set (codes "der") rows || is_set (codes "kid-thumbprint") rows)
 
 abbrev pub secret_for : List Row → Option Text → Alg → SecretOrder
-secret_for rows file alg = record { printing = printing_in rows; bare = is_set (codes "bare") rows; alg = alg; files = key_file_in file }
+secret_for rows file alg = record { printing = printing_in rows; bare = is_set (codes "bare") rows; alg = alg; kid = first_of (codes "kid") rows; files = key_file_in file }
 
--- a new secret: `--new` names its algorithm
+-- a new secret: `--new` names its algorithm, and its `kid` is its thumbprint
 abbrev pub secret_order : List Row → Option SecretOrder
-secret_order rows = if asks_of_public_keys rows || is_named (codes "alg") rows then None else option_map (secret_for rows None) (secret_alg_in (codes "new") rows)
+secret_order rows = if asks_of_public_keys rows || (is_named (codes "kid") rows || is_named (codes "alg") rows) then None else option_map (secret_for rows None) (secret_alg_in (codes "new") rows)
 
 -- that of a file: `--alg` names its algorithm
 abbrev pub kept_secret_order : List Row → Option SecretOrder

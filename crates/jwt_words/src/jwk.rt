@@ -47,7 +47,7 @@ pub struct JwkOrder<'a> {
     pub files: Files<'a>,
 }
 
-/// What `jwk --new` and `jwk --secret` ask for: a new secret, or that of a file, in a key set, with its thumbprint as `kid`.
+/// What `jwk --new` and `jwk --secret` ask for: a new secret, or that of a file, in a key set.
 #[derive(Clone, Copy)]
 pub struct SecretOrder<'a> {
     /// How a failure is printed.
@@ -58,6 +58,9 @@ pub struct SecretOrder<'a> {
 
     /// Its algorithm: HS256, HS384 or HS512.
     pub alg: Alg,
+
+    /// Its `kid`; its thumbprint where there is none.
+    pub kid: Option<&'a str>,
 
     /// The file of the secret, where one is named.
     pub files: Files<'a>,
@@ -190,10 +193,7 @@ fn chosen_secret_alg(options: &ArgMatches<'_>, name: &str) -> Option<Alg>
 fn asks_of_public_keys(options: &ArgMatches<'_>) -> bool
     ensures { result ≡ asks_of_public_keys (rows_of (found_of options.now)) }
 {
-    is_named(options, "file")
-        || is_set(options, "der")
-        || is_named(options, "kid")
-        || is_set(options, "kid-thumbprint")
+    is_named(options, "file") || is_set(options, "der") || is_set(options, "kid-thumbprint")
 }
 
 /// A secret for this algorithm, of a file or a new one.
@@ -203,11 +203,13 @@ fn secret_for<'a>(options: &ArgMatches<'a>, file: Option<&'a str>, alg: Alg) -> 
 {
     let printing = chosen_printing(options);
     let bare = is_set(options, "bare");
+    let kid = value(options, "kid");
     let files = key_file_in(file);
     SecretOrder {
         printing,
         bare,
         alg,
+        kid,
         files,
     }
 }
@@ -217,7 +219,7 @@ pub(crate) fn chosen_secret<'a>(options: &ArgMatches<'a>) -> Option<SecretOrder<
     ensures order { option_map secret_view result ≡ secret_order (rows_of (found_of options.now)) }
     ensures hmac { IfSome result (λ o. is_hmac_alg o.alg ≡ true) }
 {
-    if asks_of_public_keys(options) || is_named(options, "alg") {
+    if asks_of_public_keys(options) || is_named(options, "kid") || is_named(options, "alg") {
         return None;
     }
     let alg = chosen_secret_alg(options, "new")?;
@@ -250,7 +252,7 @@ fn wrong_beside_secret(
         "--file <FILE>"
     } else if is_set(options, "der") {
         "--der"
-    } else if is_named(options, "kid") {
+    } else if is_named(options, "kid") && secret == "--new <A>" {
         "--kid <NAME>"
     } else if is_set(options, "kid-thumbprint") {
         "--kid-thumbprint"
@@ -274,7 +276,7 @@ fn wrong_kept_secret(alloc: Global, options: &ArgMatches<'_>) -> Result<String, 
 
 /// What is said of wrong words with `--new`.
 fn wrong_secret(alloc: Global, options: &ArgMatches<'_>) -> Result<String, AllocError> {
-    if asks_of_public_keys(options) || is_named(options, "alg") {
+    if asks_of_public_keys(options) || is_named(options, "kid") || is_named(options, "alg") {
         return wrong_beside_secret(alloc, options, "--new <A>", "--alg <A>");
     }
     let alg = options.get_str("new").unwrap_or("");

@@ -19,7 +19,7 @@ use Rattle.jwt_output.specs.declared.fields.field.FieldValue.{FieldValue}
 use Rattle.jwt_output.specs.declared.fields.field.FieldValue.TheVariants as code
 
 pub data Value : Type 0 where
-  -- a word of the program's own
+  -- a word that a line has as it is
   Word : List ℕ → Value
   -- a word in a line, and what JSON has in its place
   Words : (line json : List ℕ) → Value
@@ -65,6 +65,26 @@ names name.Claims = (codes "", codes "claims")
 names name.Signatures = (codes "", codes "signatures")
 names name.Tries = (codes " tries=", codes "tries")
 names name.Work = (codes " work=", codes "work")
+names name.Name = (codes " ", codes "name")
+names name.Entry = (codes " entry=", codes "entry")
+names name.Place = (codes " place=", codes "place")
+names name.Kty = (codes " kty=", codes "kty")
+names name.Kid = (codes " kid=", codes "kid")
+names name.Alg = (codes " alg=", codes "alg")
+names name.Size = (codes " size=", codes "size")
+names name.Thumbprint = (codes " thumbprint=", codes "thumbprint")
+names name.Reason = (codes " ", codes "reason")
+names name.Sentence = (codes ": ", codes "reason")
+names name.Given = (codes " ", codes "given")
+names name.Value = (codes " ", codes "value")
+names name.Served = (codes " ", codes "alg")
+names name.Keys = (codes " keys=", codes "keys")
+names name.Calls = (codes " calls=", codes "calls")
+names name.WorkCeiling = (codes " work=", codes "work_ceiling")
+names name.CallsCeiling = (codes " max_calls=", codes "calls_ceiling")
+names name.Protected = (codes "", codes "protected")
+names name.Header = (codes "", codes "header")
+names name.Octets = (codes " octets=", codes "octets")
 
 -- ---- in a line
 

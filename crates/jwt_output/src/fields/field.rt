@@ -24,6 +24,26 @@ pub enum FieldName {
     Signatures,
     Tries,
     Work,
+    Name,
+    Entry,
+    Place,
+    Kty,
+    Kid,
+    Alg,
+    Size,
+    Thumbprint,
+    Reason,
+    Sentence,
+    Given,
+    Value,
+    Served,
+    Keys,
+    Calls,
+    WorkCeiling,
+    CallsCeiling,
+    Protected,
+    Header,
+    Octets,
 }
 
 impl FieldName {
@@ -49,6 +69,26 @@ impl FieldName {
             FieldName::Signatures => ("", "signatures"),
             FieldName::Tries => (" tries=", "tries"),
             FieldName::Work => (" work=", "work"),
+            FieldName::Name => (" ", "name"),
+            FieldName::Entry => (" entry=", "entry"),
+            FieldName::Place => (" place=", "place"),
+            FieldName::Kty => (" kty=", "kty"),
+            FieldName::Kid => (" kid=", "kid"),
+            FieldName::Alg => (" alg=", "alg"),
+            FieldName::Size => (" size=", "size"),
+            FieldName::Thumbprint => (" thumbprint=", "thumbprint"),
+            FieldName::Reason => (" ", "reason"),
+            FieldName::Sentence => (": ", "reason"),
+            FieldName::Given => (" ", "given"),
+            FieldName::Value => (" ", "value"),
+            FieldName::Served => (" ", "alg"),
+            FieldName::Keys => (" keys=", "keys"),
+            FieldName::Calls => (" calls=", "calls"),
+            FieldName::WorkCeiling => (" work=", "work_ceiling"),
+            FieldName::CallsCeiling => (" max_calls=", "calls_ceiling"),
+            FieldName::Protected => ("", "protected"),
+            FieldName::Header => ("", "header"),
+            FieldName::Octets => (" octets=", "octets"),
         }
     }
 }
@@ -56,8 +96,8 @@ impl FieldName {
 /// The value of a field.
 #[derive(Clone, Copy)]
 pub enum FieldValue<'a> {
-    /// A word of this program's.
-    Word(&'static str),
+    /// A word that a line has as it is.
+    Word(&'a str),
     /// A word of this program's in a line, and what JSON has in its place.
     Words(&'static str, &'static str),
     /// A text of somebody else's.

@@ -59,9 +59,35 @@ impl<'a> Fields<'a> {
         self.put(name, FieldValue::Count(number))
     }
 
+    /// A text, where there is one; a line has a dash for none.
+    pub(crate) fn maybe(
+        &mut self,
+        printing: Printing,
+        name: FieldName,
+        text: Option<&'a str>,
+    ) -> Result<(), AllocError> {
+        match (text, printing) {
+            (Some(text), _) => self.put(name, FieldValue::Text(text)),
+            (None, Printing::Lines) => self.word(name, "-"),
+            (None, Printing::Json) => Ok(()),
+        }
+    }
+
+    /// The line.
+    pub(crate) fn line(&self, alloc: Global) -> Result<Vec<u8>, AllocError> {
+        fields_line(alloc, self.fields.as_slice())
+    }
+
     /// The members of a JSON object that is being written.
     pub(crate) fn members(&self, alloc: Global, out: &mut JsonOut) -> Result<(), AllocError> {
         put_fields(alloc, out, self.fields.as_slice())
+    }
+
+    /// A JSON object without a name.
+    pub(crate) fn object(&self, alloc: Global, out: &mut JsonOut) -> Result<(), AllocError> {
+        out.begin_object()?;
+        self.members(alloc, out)?;
+        out.end_object()
     }
 
     /// What it refuses or denies something for.

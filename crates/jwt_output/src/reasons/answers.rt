@@ -1,4 +1,5 @@
 //! What is said of a token, beside the line that the command has answered.
+use crate::reasons::advice::ADVICE;
 use crate::reasons::cause::Cause;
 
 /// What a refusal or a denial of a token means and what to do; none of any other answer.
@@ -17,4 +18,14 @@ pub fn around_token(token: &[u8]) -> Option<&'static str> {
         );
     }
     None
+}
+
+/// What an advice says and what to write, by its name.
+pub(crate) fn advice_sentence(name: &str) -> &'static str {
+    for (known, sentence) in &ADVICE {
+        if *known == name {
+            return *sentence;
+        }
+    }
+    ""
 }

@@ -1,164 +1,107 @@
-//! The meaning of a policy, in lines.
+//! The meaning of a policy, in lines or in JSON.
 ghost use Rattle.std.specs.Prelude.{◌≡◌, IfOk};
 ghost use Rattle.jwt_advice.specs.Findings.{findings_view};
 ghost use Rattle.jwt_output.specs.verdicts.Meant.{status_of};
 
-use crate::verdicts::json_meant::policy_json;
-use crate::verdicts::members::{MEMBERS, Member, value_text};
-use crate::{Reply, put_labelled};
+use crate::Reply;
+use crate::fields::{FieldName, FieldValue, Fields, Listing};
+use crate::reasons::advice_sentence;
+use crate::verdicts::members::put_members;
 use jwt_advice::{AlgKeys, Findings, KeyFacts, Note};
 use jwt_policy::Policy;
 use jwt_settings::Printing;
 use jwt_text::ObjectRef;
 use std::alloc::{AllocError, Global};
 
-/// What stands between the name of a member and its value.
-fn origin(is_given: bool) -> &'static str {
-    if is_given { " given " } else { " default " }
-}
-
-/// The line of a member.
-fn put_member(
-    alloc: Global,
-    out: &mut Vec<u8>,
-    document: &ObjectRef<'_>,
-    policy: &Policy,
-    member: Member,
-) -> Result<(), AllocError> {
-    let value = value_text(alloc, member.value(policy))?;
-    let name = member.name();
-    out.extend_from_slice(name.as_bytes())?;
-    put_labelled(out, origin(document.has(name)), value.as_slice())?;
-    out.push(b'\n')?;
-    Ok(())
-}
-
-/// A line a member.
-fn put_members(
-    alloc: Global,
-    out: &mut Vec<u8>,
-    document: &ObjectRef<'_>,
-    policy: &Policy,
-    members: &[Member],
-) -> Result<(), AllocError> {
-    for member in members {
-        put_member(alloc, out, document, policy, *member)?;
-    }
-    Ok(())
-}
-
-/// The line of an algorithm.
-fn put_alg(alloc: Global, out: &mut Vec<u8>, counted: AlgKeys) -> Result<(), AllocError> {
-    let alg = counted.alg.text();
-    let keys = counted.keys;
-    let line = format!(in alloc; "alg {alg} keys={keys}\n")?;
-    out.extend_from_slice(line.as_bytes())
-}
-
-/// A line an algorithm.
-fn put_algs(alloc: Global, out: &mut Vec<u8>, algs: &[AlgKeys]) -> Result<(), AllocError> {
+/// How many keys each algorithm has.
+fn put_algs(alloc: Global, out: &mut Listing, algs: &[AlgKeys]) -> Result<(), AllocError> {
+    out.begin_list("algorithms")?;
     for counted in algs {
-        put_alg(alloc, out, *counted)?;
+        let mut fields = Fields::none(alloc);
+        fields.word(FieldName::Served, counted.alg.text())?;
+        fields.count(FieldName::Keys, u64::from(counted.keys))?;
+        out.row(alloc, "alg", &fields)?;
     }
-    Ok(())
+    out.end_list()
 }
 
-/// The line of a key that is never used.
-fn put_unused_key(alloc: Global, out: &mut Vec<u8>, number: u32) -> Result<(), AllocError> {
-    let line = format!(in alloc; "unused key={number}\n")?;
-    out.extend_from_slice(line.as_bytes())
-}
-
-/// A line a key that is never used.
-fn put_unused(alloc: Global, out: &mut Vec<u8>, numbers: &[u32]) -> Result<(), AllocError> {
+/// The keys that are never used.
+fn put_unused(alloc: Global, out: &mut Listing, numbers: &[u32]) -> Result<(), AllocError> {
+    out.begin_list("unused")?;
     for number in numbers {
-        put_unused_key(alloc, out, *number)?;
+        out.number(alloc, "unused key=", *number)?;
     }
-    Ok(())
+    out.end_list()
 }
 
-/// The line of what one token can cost.
-fn put_cost(alloc: Global, out: &mut Vec<u8>, work: u64, calls: u64) -> Result<(), AllocError> {
-    let line = format!(in alloc; "cost work={work} calls={calls}\n")?;
-    out.extend_from_slice(line.as_bytes())
-}
-
-/// The line of the ceilings of a policy.
-fn put_ceilings(
+/// What one token can cost, and the ceilings of the policy.
+fn put_bounds(
     alloc: Global,
-    out: &mut Vec<u8>,
-    work: u64,
-    calls: Option<u32>,
+    out: &mut Listing,
+    policy: &Policy,
+    facts: &KeyFacts,
 ) -> Result<(), AllocError> {
-    let line = match calls {
-        Some(calls) => format!(in alloc; "ceilings work={work} max_calls={calls}\n")?,
-        None => format!(in alloc; "ceilings work={work} max_calls=-\n")?,
-    };
-    out.extend_from_slice(line.as_bytes())
+    let mut cost = Fields::none(alloc);
+    cost.count(FieldName::Work, facts.work)?;
+    cost.count(FieldName::Calls, facts.calls)?;
+    let mut ceilings = Fields::none(alloc);
+    ceilings.count(FieldName::WorkCeiling, policy.work())?;
+    match (policy.max_calls(), out.printing()) {
+        (Some(calls), _) => ceilings.count(FieldName::CallsCeiling, u64::from(calls))?,
+        (None, Printing::Lines) => ceilings.word(FieldName::CallsCeiling, "-")?,
+        (None, Printing::Json) => {
+            ceilings.put(FieldName::CallsCeiling, FieldValue::Json(b"null"))?;
+        }
+    }
+    out.begin_object("bounds")?;
+    out.members(alloc, "cost", &cost)?;
+    out.members(alloc, "ceilings", &ceilings)?;
+    out.end_object()
 }
 
-/// The lines of the keys of a policy.
-fn put_keys(
+/// What the keys of a policy are for.
+fn put_facts(
     alloc: Global,
-    out: &mut Vec<u8>,
+    out: &mut Listing,
     policy: &Policy,
     facts: &KeyFacts,
 ) -> Result<(), AllocError> {
     put_algs(alloc, out, facts.algs.as_slice())?;
     put_unused(alloc, out, facts.unused.as_slice())?;
-    put_cost(alloc, out, facts.work, facts.calls)?;
-    put_ceilings(alloc, out, policy.work(), policy.max_calls())
+    put_bounds(alloc, out, policy, facts)
 }
 
-/// The lines of the keys of a policy, where they are known.
-fn put_facts(
-    alloc: Global,
-    out: &mut Vec<u8>,
-    policy: &Policy,
-    facts: &Option<KeyFacts>,
-) -> Result<(), AllocError> {
-    match facts {
-        Some(facts) => put_keys(alloc, out, policy, facts),
-        None => Ok(()),
-    }
-}
-
-/// The line of an advice.
-fn put_note(alloc: Global, out: &mut Vec<u8>, note: Note) -> Result<(), AllocError> {
-    let line = match note {
-        Note::Whole(advice) => {
-            let name = advice.name();
-            format!(in alloc; "advice {name}\n")?
-        }
-        Note::OfKey(advice, key) => {
-            let name = advice.name();
-            format!(in alloc; "advice {name} key={key}\n")?
-        }
-        Note::PrivateEntry(place) => format!(in alloc; "advice PrivateMember entry={place}\n")?,
+/// An advice by its name, and what it is about.
+fn note_fields<'a>(alloc: Global, note: Note) -> Result<(Fields<'a>, &'static str), AllocError> {
+    let mut fields = Fields::none(alloc);
+    let name = match note {
+        Note::Whole(advice) | Note::OfKey(advice, _) => advice.name(),
+        Note::PrivateEntry(_) => "PrivateMember",
     };
-    out.extend_from_slice(line.as_bytes())
-}
-
-/// A line an advice.
-fn put_notes(alloc: Global, out: &mut Vec<u8>, notes: &[Note]) -> Result<(), AllocError> {
-    for note in notes {
-        put_note(alloc, out, *note)?;
+    fields.word(FieldName::Name, name)?;
+    match note {
+        Note::Whole(_) => {}
+        Note::OfKey(_, key) => fields.count(FieldName::Key, u64::from(key))?,
+        Note::PrivateEntry(place) => fields.count(FieldName::Entry, place as u64)?,
     }
-    Ok(())
+    Ok((fields, name))
 }
 
-/// All lines of a policy.
-fn policy_lines(
-    alloc: Global,
-    document: &ObjectRef<'_>,
-    policy: &Policy,
-    found: &Findings,
-) -> Result<Vec<u8>, AllocError> {
-    let mut out = Vec::new(alloc);
-    put_members(alloc, &mut out, document, policy, &MEMBERS)?;
-    put_facts(alloc, &mut out, policy, &found.facts)?;
-    put_notes(alloc, &mut out, found.notes.as_slice())?;
-    Ok(out)
+/// An advice with what it says and what to write: a line behind `advice`, or a JSON object.
+pub fn explained_note(alloc: Global, printing: Printing, note: Note) -> Result<Reply, AllocError> {
+    let (mut fields, name) = note_fields(alloc, note)?;
+    fields.word(FieldName::Sentence, advice_sentence(name))?;
+    fields.printed(alloc, printing, 0)
+}
+
+/// What ought to be written otherwise.
+fn put_notes(alloc: Global, out: &mut Listing, notes: &[Note]) -> Result<(), AllocError> {
+    out.begin_list("advice")?;
+    for note in notes {
+        let (fields, _) = note_fields(alloc, *note)?;
+        out.row(alloc, "advice", &fields)?;
+    }
+    out.end_list()
 }
 
 /// The status: 1 where something ought to be written otherwise.
@@ -180,9 +123,11 @@ pub fn printed_policy(
     ensures { IfOk result (λ a. a.status ≡ status_of (findings_view found.now).notes) }
 {
     let status = status_of(found.notes.as_slice());
-    let text = match printing {
-        Printing::Json => policy_json(alloc, document, policy, found)?,
-        Printing::Lines => policy_lines(alloc, document, policy, found)?,
-    };
-    Ok(Reply::of(text, status))
+    let mut out = Listing::new(alloc, printing)?;
+    put_members(alloc, &mut out, document, policy)?;
+    if let Some(facts) = &found.facts {
+        put_facts(alloc, &mut out, policy, facts)?;
+    }
+    put_notes(alloc, &mut out, found.notes.as_slice())?;
+    Ok(Reply::of(out.text()?, status))
 }

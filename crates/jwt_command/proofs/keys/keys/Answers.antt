@@ -13,8 +13,8 @@ returns-in-Ok-clause-answer g c =
     let read = rw c.in-Some.is at c.in_ok-input.ensures.read in
     let works = rw c.in-Some.is at c.in_ok-input.ensures.works in
     IfSome_then (g.R.Source.remaining c.args.r.now) read
-    (λ x taken. set_listed c.args.printing x c.octets.result.now _ (Ok (key_set c.in-Ok.set)) (reply_view c.bare-in-Ok.result.reply) (c.octets.ensures.value ∙ taken) works c.in-Ok.ensures.answer
-    (ap (λ (a : Answer). a.status) (ap reply_view c.bare-in-Ok.ensures.reply) ∙ c.in_ok-printed_set-in-Ok.ensures))
+    (λ x taken. set_listed c.args.printing x c.octets.result.now _ (Ok (key_set c.in-Ok.set)) (reply_view c.advised.result.reply) (c.octets.ensures.value ∙ taken) works c.in-Ok.ensures.answer
+    (ap (λ (a : Answer). a.status) (ap reply_view c.advised.ensures.reply) ∙ c.in_ok-printed_set-in-Ok.ensures))
 
 pub returns : goal.returns
 returns g c =

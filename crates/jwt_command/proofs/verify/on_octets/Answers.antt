@@ -3,7 +3,7 @@ use Rattle.jwt_verify.specs.Reports.{IsReport}
 use Rattle.jwt_verify.specs.TermsTable.{terms_meant}
 use Rattle.jwt_output.specs.Views.{reply_view}
 use Rattle.jwt_output.specs.verdicts.Verdicts.{verdict_answer}
-use Rattle.jwt_command.specs.Views.{asked_of}
+use Rattle.jwt_command.specs.Views.{demands_of}
 use Rattle.jwt_command.proofs.Verifying.{answered_in_hand, read_payload}
 use Rattle.jwt_command.proofs.verify.on_octets.Goals as goal
 
@@ -13,7 +13,7 @@ returns-clause-line g c =
     let x = c.args.token.now in
     let r = c.judge_under-judged.result.report in
     let found = c.in_ok-reply.ensures.memory in
-    answered_in_hand c.args.telling.now.printing (asked_of c.args.telling.now) q x c.payload_in-payload.result.now c.tells_reports.ensures r c.octets-work.result
+    answered_in_hand c.args.telling.now.printing (demands_of c.args.telling.now) q x c.payload_in-payload.result.now c.tells_reports.ensures r c.octets-work.result
     (subst (λ w. IsReport q x w r) (c.new-budget.ensures.ceiling ∙ c.work.ensures.value)
     c.judge_under-judged.ensures.judged.report)
     (c.payload_in-payload.ensures ∙ read_payload c.args.terms.now.policy.now x r.verdict c.judge_under-judged.result.token c.tells_tokens.ensures.token found c.judge_under-judged.ensures.token)

@@ -5,7 +5,7 @@ use Rattle.jwt_keys.specs.KeySets.{key_set}
 use Rattle.jwt_settings.specs.Seen.{seconds_of}
 use Rattle.jwt_command.specs.Lines.{LineAnswered, with_held}
 use Rattle.jwt_output.specs.Printed.{Answer}
-use Rattle.jwt_command.specs.Views.{rule_view, told_by}
+use Rattle.jwt_command.specs.Views.{rule_view, printer_of}
 use Rattle.jwt_settings.specs.Seen.{expectation_view}
 use Rattle.jwt_command.specs.declared.input.line.LineFault.TheVariants.{OutOfMemory}
 use Rattle.jwt_command.specs.Verify.{terms_of_keys}
@@ -16,13 +16,13 @@ use Rattle.jwt_command.proofs.verify_lines.answer_lines.Goals as goal
 pub returns-in_default : goal.returns-in_default
 returns-in_default g c =
     let vs = map (λ b. (goal.Verifier-dyn g (b.vtable, b.value)).meaning b.value) c.args.shared.now.verifiers.now in
-    let at : ℕ → List ℕ → Answer = λ m l. (told_by c.args.shared.now.telling.printing c.args.shared.now.telling.expected).token (rule_view c.args.shared.now.telling.rule) (terms_of_keys vs m c.args.shared.now.policy.now (key_set c.args.shared.now.keys.now)) l in
-    lines_memory at (told_by c.args.shared.now.telling.printing c.args.shared.now.telling.expected).read_failed (with_held c.args.shared.now.policy.now.run.limit g.C.Clock.says) (seconds_of c.args.shared.now.moment) (g.R.Source.remaining c.args.r.now) _ _ _ _ _ c.lack_memory.ensures
+    let at : ℕ → List ℕ → Answer = λ m l. (printer_of c.args.shared.now.telling.printing c.args.shared.now.telling.expected).token (rule_view c.args.shared.now.telling.rule) (terms_of_keys vs m c.args.shared.now.policy.now (key_set c.args.shared.now.keys.now)) l in
+    lines_memory at (printer_of c.args.shared.now.telling.printing c.args.shared.now.telling.expected).read_failed (with_held c.args.shared.now.policy.now.run.limit g.C.Clock.says) (seconds_of c.args.shared.now.moment) (g.R.Source.remaining c.args.r.now) _ _ _ _ _ c.lack_memory.ensures
 
 pub lines-init : goal.lines-init
 lines-init g c =
     let vs = map (λ b. (goal.Verifier-dyn g (b.vtable, b.value)).meaning b.value) c.args.shared.now.verifiers.now in
-    let at : ℕ → List ℕ → Answer = λ m l. (told_by c.args.shared.now.telling.printing c.args.shared.now.telling.expected).token (rule_view c.args.shared.now.telling.rule) (terms_of_keys vs m c.args.shared.now.policy.now (key_set c.args.shared.now.keys.now)) l in
+    let at : ℕ → List ℕ → Answer = λ m l. (printer_of c.args.shared.now.telling.printing c.args.shared.now.telling.expected).token (rule_view c.args.shared.now.telling.rule) (terms_of_keys vs m c.args.shared.now.policy.now (key_set c.args.shared.now.keys.now)) l in
     record {
       answering = answering_none at (with_held c.args.shared.now.policy.now.run.limit g.C.Clock.says) (seconds_of c.args.shared.now.moment) (g.R.Source.remaining c.args.r.now) c.in-Ok.ahead (g.W.Sink.contents c.args.w.now) c.new-ready.result.items c.in-Ok.ensures c.new-ready.ensures.items;
     }
@@ -30,50 +30,50 @@ lines-init g c =
 pub returns-then-not-send_in_time : goal.returns-then-not-send_in_time
 returns-then-not-send_in_time g c =
     let vs = map (λ b. (goal.Verifier-dyn g (b.vtable, b.value)).meaning b.value) c.args.shared.now.verifiers.now in
-    let at : ℕ → List ℕ → Answer = λ m l. (told_by c.args.shared.now.telling.printing c.args.shared.now.telling.expected).token (rule_view c.args.shared.now.telling.rule) (terms_of_keys vs m c.args.shared.now.policy.now (key_set c.args.shared.now.keys.now)) l in
+    let at : ℕ → List ℕ → Answer = λ m l. (printer_of c.args.shared.now.telling.printing c.args.shared.now.telling.expected).token (rule_view c.args.shared.now.telling.rule) (terms_of_keys vs m c.args.shared.now.policy.now (key_set c.args.shared.now.keys.now)) l in
     let says = with_held c.args.shared.now.policy.now.run.limit g.C.Clock.says in
     let known = g.R.Source.remaining c.args.r.now in
     let left = prepend_known c.lines.ahead (g.R.Source.remaining c.lines.r) in
-    lines_cut at (told_by c.args.shared.now.telling.printing c.args.shared.now.telling.expected).read_failed says (seconds_of c.args.shared.now.moment) c.lines.number known left _ _ (g.W.Sink.contents c.lines.w) _ c.lines.ready.items _ _ c.lines.invariant.answering (c.send_in_time.ensures.cut (search (c.if-not-send_in_time.true))) refl
+    lines_cut at (printer_of c.args.shared.now.telling.printing c.args.shared.now.telling.expected).read_failed says (seconds_of c.args.shared.now.moment) c.lines.number known left _ _ (g.W.Sink.contents c.lines.w) _ c.lines.ready.items _ _ c.lines.invariant.answering (c.send_in_time.ensures.cut (search (c.if-not-send_in_time.true))) refl
 
 pub returns-in-Err-answer_line : goal.returns-in-Err-answer_line
 returns-in-Err-answer_line g c =
     let vs = map (λ b. (goal.Verifier-dyn g (b.vtable, b.value)).meaning b.value) c.args.shared.now.verifiers.now in
-    let at : ℕ → List ℕ → Answer = λ m l. (told_by c.args.shared.now.telling.printing c.args.shared.now.telling.expected).token (rule_view c.args.shared.now.telling.rule) (terms_of_keys vs m c.args.shared.now.policy.now (key_set c.args.shared.now.keys.now)) l in
+    let at : ℕ → List ℕ → Answer = λ m l. (printer_of c.args.shared.now.telling.printing c.args.shared.now.telling.expected).token (rule_view c.args.shared.now.telling.rule) (terms_of_keys vs m c.args.shared.now.policy.now (key_set c.args.shared.now.keys.now)) l in
     let says = with_held c.args.shared.now.policy.now.run.limit g.C.Clock.says in
     let known = g.R.Source.remaining c.args.r.now in
     let left = prepend_known c.lines.ahead (g.R.Source.remaining c.lines.r) in
     let run = answering_kept at says (seconds_of c.args.shared.now.moment) c.lines.number known left (g.W.Sink.contents c.args.w.now) (g.W.Sink.contents c.lines.w) (g.W.Sink.contents c.send_in_time.new.w) c.lines.ready.items c.send_in_time.new.ready.items c.lines.invariant.answering (c.send_in_time.ensures.sent (search (c.if-not-send_in_time.false))) in
     let ready = subst (λ r. Answering at says (seconds_of c.args.shared.now.moment) c.lines.number known left (g.W.Sink.contents c.args.w.now) (g.W.Sink.contents c.send_in_time.new.w) r) (sym c.in-Err-answer_line.ensures.kept) run in
-    lines_stopped at (told_by c.args.shared.now.telling.printing c.args.shared.now.telling.expected).read_failed says (seconds_of c.args.shared.now.moment) c.lines.number known left (g.R.Source.failed c.take_line.new.r) (g.W.Sink.contents c.args.w.now) (g.W.Sink.contents c.send_in_time.new.w) (g.W.Sink.contents c.stop_lines.new.w) c.answer_line.new.ready.items (g.W.Sink.failed c.stop_lines.new.w) c.stop_lines.result c.in-Err-answer_line.fault ready
+    lines_stopped at (printer_of c.args.shared.now.telling.printing c.args.shared.now.telling.expected).read_failed says (seconds_of c.args.shared.now.moment) c.lines.number known left (g.R.Source.failed c.take_line.new.r) (g.W.Sink.contents c.args.w.now) (g.W.Sink.contents c.send_in_time.new.w) (g.W.Sink.contents c.stop_lines.new.w) c.answer_line.new.ready.items (g.W.Sink.failed c.stop_lines.new.w) c.stop_lines.result c.in-Err-answer_line.fault ready
     (λ is. inr (c.answer_line.ensures.read (c.in-Err-answer_line.is ∙ ap Err is))) c.stop_lines.ensures
 
 pub returns-in-Ok-false : goal.returns-in-Ok-false
 returns-in-Ok-false g c =
     let vs = map (λ b. (goal.Verifier-dyn g (b.vtable, b.value)).meaning b.value) c.args.shared.now.verifiers.now in
-    let at : ℕ → List ℕ → Answer = λ m l. (told_by c.args.shared.now.telling.printing c.args.shared.now.telling.expected).token (rule_view c.args.shared.now.telling.rule) (terms_of_keys vs m c.args.shared.now.policy.now (key_set c.args.shared.now.keys.now)) l in
+    let at : ℕ → List ℕ → Answer = λ m l. (printer_of c.args.shared.now.telling.printing c.args.shared.now.telling.expected).token (rule_view c.args.shared.now.telling.rule) (terms_of_keys vs m c.args.shared.now.policy.now (key_set c.args.shared.now.keys.now)) l in
     let says = with_held c.args.shared.now.policy.now.run.limit g.C.Clock.says in
     let known = g.R.Source.remaining c.args.r.now in
     let left = prepend_known c.lines.ahead (g.R.Source.remaining c.lines.r) in
     let run = answering_kept at says (seconds_of c.args.shared.now.moment) c.lines.number known left _ (g.W.Sink.contents c.lines.w) (g.W.Sink.contents c.send_in_time.new.w) c.lines.ready.items c.send_in_time.new.ready.items c.lines.invariant.answering (c.send_in_time.ensures.sent (search (c.if-not-send_in_time.false))) in
-    lines_done at (told_by c.args.shared.now.telling.printing c.args.shared.now.telling.expected).read_failed says (seconds_of c.args.shared.now.moment) c.lines.number known left _ _ (g.W.Sink.contents c.send_in_time.new.w) _ c.send_in_time.new.ready.items _ _ run
+    lines_done at (printer_of c.args.shared.now.telling.printing c.args.shared.now.telling.expected).read_failed says (seconds_of c.args.shared.now.moment) c.lines.number known left _ _ (g.W.Sink.contents c.send_in_time.new.w) _ c.send_in_time.new.ready.items _ _ run
     (IfSome_then left c.take_line.ensures.end (λ y f. f (c.in-Ok-false.is ∙ ap Ok c.in-Ok-false.field-0-test))) c.end_lines.ensures
 
 pub returns-in-Err : goal.returns-in-Err
 returns-in-Err g c =
     let vs = map (λ b. (goal.Verifier-dyn g (b.vtable, b.value)).meaning b.value) c.args.shared.now.verifiers.now in
-    let at : ℕ → List ℕ → Answer = λ m l. (told_by c.args.shared.now.telling.printing c.args.shared.now.telling.expected).token (rule_view c.args.shared.now.telling.rule) (terms_of_keys vs m c.args.shared.now.policy.now (key_set c.args.shared.now.keys.now)) l in
+    let at : ℕ → List ℕ → Answer = λ m l. (printer_of c.args.shared.now.telling.printing c.args.shared.now.telling.expected).token (rule_view c.args.shared.now.telling.rule) (terms_of_keys vs m c.args.shared.now.policy.now (key_set c.args.shared.now.keys.now)) l in
     let says = with_held c.args.shared.now.policy.now.run.limit g.C.Clock.says in
     let known = g.R.Source.remaining c.args.r.now in
     let left = prepend_known c.lines.ahead (g.R.Source.remaining c.lines.r) in
     let run = answering_kept at says (seconds_of c.args.shared.now.moment) c.lines.number known left _ (g.W.Sink.contents c.lines.w) (g.W.Sink.contents c.send_in_time.new.w) c.lines.ready.items c.send_in_time.new.ready.items c.lines.invariant.answering (c.send_in_time.ensures.sent (search (c.if-not-send_in_time.false))) in
-    lines_stopped at (told_by c.args.shared.now.telling.printing c.args.shared.now.telling.expected).read_failed says (seconds_of c.args.shared.now.moment) c.lines.number known left _ _ (g.W.Sink.contents c.send_in_time.new.w) _ c.send_in_time.new.ready.items _ _ c.in-Err.fault run
+    lines_stopped at (printer_of c.args.shared.now.telling.printing c.args.shared.now.telling.expected).read_failed says (seconds_of c.args.shared.now.moment) c.lines.number known left _ _ (g.W.Sink.contents c.send_in_time.new.w) _ c.send_in_time.new.ready.items _ _ c.in-Err.fault run
     (λ is. inl (c.take_line.ensures.read (c.in-Err.is ∙ ap Err is))) c.stop_lines-in-Err.ensures
 
 pub lines-preserved : goal.lines-preserved
 lines-preserved g c =
     let vs = map (λ b. (goal.Verifier-dyn g (b.vtable, b.value)).meaning b.value) c.args.shared.now.verifiers.now in
-    let at : ℕ → List ℕ → Answer = λ m l. (told_by c.args.shared.now.telling.printing c.args.shared.now.telling.expected).token (rule_view c.args.shared.now.telling.rule) (terms_of_keys vs m c.args.shared.now.policy.now (key_set c.args.shared.now.keys.now)) l in
+    let at : ℕ → List ℕ → Answer = λ m l. (printer_of c.args.shared.now.telling.printing c.args.shared.now.telling.expected).token (rule_view c.args.shared.now.telling.rule) (terms_of_keys vs m c.args.shared.now.policy.now (key_set c.args.shared.now.keys.now)) l in
     let says = with_held c.args.shared.now.policy.now.run.limit g.C.Clock.says in
     let known = g.R.Source.remaining c.args.r.now in
     let left = prepend_known c.lines.ahead (g.R.Source.remaining c.lines.r) in
@@ -89,9 +89,9 @@ lines-preserved g c =
 pub returns : goal.returns
 returns g c =
     let vs = map (λ b. (goal.Verifier-dyn g (b.vtable, b.value)).meaning b.value) c.args.shared.now.verifiers.now in
-    let at : ℕ → List ℕ → Answer = λ m l. (told_by c.args.shared.now.telling.printing c.args.shared.now.telling.expected).token (rule_view c.args.shared.now.telling.rule) (terms_of_keys vs m c.args.shared.now.policy.now (key_set c.args.shared.now.keys.now)) l in
+    let at : ℕ → List ℕ → Answer = λ m l. (printer_of c.args.shared.now.telling.printing c.args.shared.now.telling.expected).token (rule_view c.args.shared.now.telling.rule) (terms_of_keys vs m c.args.shared.now.policy.now (key_set c.args.shared.now.keys.now)) l in
     let says = with_held c.args.shared.now.policy.now.run.limit g.C.Clock.says in
     let known = g.R.Source.remaining c.args.r.now in
     let left = prepend_known c.lines.ahead (g.R.Source.remaining c.lines.r) in
-    lines_stopped at (told_by c.args.shared.now.telling.printing c.args.shared.now.telling.expected).read_failed says (seconds_of c.args.shared.now.moment) c.lines.number known left _ _ (g.W.Sink.contents c.lines.w) _ c.lines.ready.items _ _ OutOfMemory c.lines.invariant.answering
+    lines_stopped at (printer_of c.args.shared.now.telling.printing c.args.shared.now.telling.expected).read_failed says (seconds_of c.args.shared.now.moment) c.lines.number known left _ _ (g.W.Sink.contents c.lines.w) _ c.lines.ready.items _ _ OutOfMemory c.lines.invariant.answering
     (λ is. absurd (cc is)) c.stop_lines-2.ensures
