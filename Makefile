@@ -213,9 +213,6 @@ test: libraries
 drawn:
 	gate/faults.py --write
 	gate/options.py --write
-	gate/contents.py --write
-	gate/lemmas.py --write
-	gate/layers.py --write
 	bench/picture
 	printf '//! The version of the program, and the kit that proves it, drawn by `make drawn`.\n\n/// What `jwt --version` prints.\npub const VERSION: &str = "jwt %s, proved with %s";\n' '$(VERSION)' "$$(rt version)" > crates/jwt_command/src/version.rt
 

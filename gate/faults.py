@@ -208,15 +208,20 @@ def node(_):
     return "\n".join([*lines, "};"]) + "\n"
 
 
+def hidden(table):
+    """A function that hands a table out, so that no proof but its own looks into the rows."""
+    return [f"pub(crate) fn {table.lower()}() -> &'static [(&'static str, &'static str)] {{", f"    &{table}", "}"]
+
+
 def rattle(_):
     """The command's table of sentences about tokens."""
     lines = ["//! What the refusals and the denials of a token mean and what to do, drawn from gate/faults.txt by gate/faults.py."]
     for table, kind in (("REFUSALS", "token"), ("DENIALS", "denied")):
         rows = [(name, f"{means}. {last}") for name, (means, last) in meanings()[kind].items()]
-        lines += ["", f"/// The {table.lower()} by their names, each with its sentences.", f"pub(crate) const {table}: [(&str, &str); {len(rows)}] = ["]
+        lines += ["", f"static {table}: [(&str, &str); {len(rows)}] = ["]
         for name, text in rows:
-            lines += ["    (", f"        {json.dumps(name)},", f"        {json.dumps(text, ensure_ascii=False)},", "    ),"]
-        lines.append("];")
+            lines.append(f"    row! {{ {json.dumps(name)}, {json.dumps(text, ensure_ascii=False)} }},")
+        lines += ["];", "", f"/// The {table.lower()} by their names, each with its sentences.", *hidden(table)]
     return "\n".join(lines) + "\n"
 
 
@@ -227,10 +232,10 @@ def advice(_):
     """The command's table of sentences about advice, from the table of docs/COMMAND.md."""
     rows = re.findall(r"^\| (\w+) \| (.*) \| (.*) \|$", (TOP / "docs/COMMAND.md").read_text().partition(ADVICE)[2].partition("\n\n")[0], re.MULTILINE)
     lines = ["//! What each advice says and what to write, drawn from docs/COMMAND.md by gate/faults.py.", ""]
-    lines += ["/// The advice by its name, with its sentence.", f"pub(crate) const ADVICE: [(&str, &str); {len(rows)}] = ["]
+    lines.append(f"static ADVICE: [(&str, &str); {len(rows)}] = [")
     for name, says, write in rows:
-        lines += ["    (", f"        {json.dumps(name)},", f"        {json.dumps(f'{says}. Write {write}.', ensure_ascii=False)},", "    ),"]
-    return "\n".join([*lines, "];"]) + "\n"
+        lines.append(f"    row! {{ {json.dumps(name)}, {json.dumps(f'{says}. Write {write}.', ensure_ascii=False)} }},")
+    return "\n".join([*lines, "];", "", "/// The advice by its name, with its sentence.", *hidden("ADVICE")]) + "\n"
 
 
 # Each drawn file with what draws it of its text.

@@ -1,8 +1,9 @@
 #!/usr/bin/env python3
-"""Draws the completions of the command for bash, zsh and fish from its table of options, crates/jwt_words/src/options.rt, and compares the manual with it.
+"""Draws the completions of the command for bash, zsh and fish from its table of options, crates/jwt_words/src/options.rt, and of the manual the synopsis, from
+the table of commands in docs/COMMAND.md, and the options of which it says nothing else, from the table of options.
 
     gate/options.py            compares
-    gate/options.py --write    writes docs/jwt.bash, docs/jwt.zsh and docs/jwt.fish
+    gate/options.py --write    writes docs/jwt.bash, docs/jwt.zsh, docs/jwt.fish and these parts of docs/jwt.1
 
 It ends with 'N passed, M failed'.
 """
@@ -26,12 +27,16 @@ MANUAL = "docs/jwt.1"
 def options():
     """Of each command its options: name, value and what they are."""
     found = {}
-    text = re.sub(r'"\s*\+?\s*\n\s*"', "", TABLE.read_text())
-    for name, rows in re.findall(r"const ([A-Z]+): \[OptionRow; \d+\] = \[(.*?)\n?\}?\];", text, re.DOTALL):
-        parts = re.findall(r'name: ("[^"]*"),\s*value: ("[^"]*"),\s*takes: Takes::\w+,\s*help:\s*("(?:[^"\\]|\\.)*")', rows)
-        found[name.lower()] = [(json.loads(a), json.loads(b), re.split(r"[,;:]", json.loads(c))[0]) for a, b, c in parts]
+    for name, rows in re.findall(r"const ([A-Z]+): \[OptionRow; \d+\] = \[\n(.*?)^\];", TABLE.read_text(), re.DOTALL | re.MULTILINE):
+        parts = re.findall(r'row! \{ ("[^"]*"), ("[^"]*"), \w+, ("(?:[^"\\]|\\.)*") \}', rows)
+        found[name.lower()] = [tuple(json.loads(it) for it in row) for row in parts]
     found["verify"].append(TRIM)
     return {command: found[command] for command in ABOUT}
+
+
+def briefly(table):
+    """The same with the first words of what they are."""
+    return {command: [(name, value, re.split(r"[,;:]", what)[0]) for name, value, what in rows] for command, rows in table.items()}
 
 
 def bash(table):
@@ -126,18 +131,70 @@ def fish(table):
     return lines
 
 
+COMMANDS = "| Command | Standard input | Answer |"
+# Around the options of the manual that are drawn.
+BEGIN, END = '.\\" Drawn by gate/options.py:\n', '.\\" (up to here)\n'
+
+
+def macros(text):
+    """A synopsis of docs/COMMAND.md in the macros of a manual: what is in brackets may be left out, and one of what stands around a bar is written."""
+    word = re.compile(r"--([\w-]+)(?: ([A-Z=]+))?|([A-Z]+)|(\[)|(\])|(\|)|[()]")
+    out, depth = [], 0
+    for found in word.finditer(text):
+        option, value, name, opens, closes, bar = found.groups()
+        if option:
+            # (a word in capitals behind an option is its value)
+            out.append(f"Fl \\-{option}" + (f" Ar {value}" if value else ""))
+        elif name:
+            out.append(f"Ar {name}")
+        elif opens:
+            out, depth = out + ["Oo"], depth + 1
+        elif closes:
+            out, depth = out + ["Oc"], depth - 1
+        elif bar:
+            out.append("|")
+    line = " ".join(out)
+    # (brackets around a whole line have a macro of their own)
+    return re.sub(r"^Oo ([^O]*?) Oc$", r"Op \1", line)
+
+
+def synopsis():
+    """The synopsis of the manual."""
+    page = (TOP / "docs/COMMAND.md").read_text().partition(COMMANDS)[2].partition("\n\n")[0]
+    lines = []
+    for words in re.findall(r"^\| `jwt (.*?)` \|", page, re.MULTILINE):
+        command, _, rest = words.replace("\\|", "|").partition(" ")
+        lines += [".Nm jwt" + (f" Cm {command}" if command in ABOUT else "")]
+        rest = rest if command in ABOUT else command
+        # (each part that is in no bracket is a line)
+        lines += [f".{macros(it)}" for it in re.findall(r"\[[^\]]*\]|\(.*?\)(?= \[|$)|--[\w-]+(?: [A-Z=]+)?|[A-Z]+", rest)]
+    return "\n".join(lines) + "\n"
+
+
+def listed(table, text):
+    """The items of the options that the manual's text doesn't list otherwise."""
+    known = set(re.findall(r"Fl \\-([\w-]+)", "\n".join(re.findall(r"^\.It .*", text, re.MULTILINE))))
+    rows = [(command, row) for command, rows in table.items() for row in rows if row[0] not in known]
+    return "".join(f".It Fl \\-{name}" + (f" Ar {value}" if value else "") + f"\nOf\n.Cm {command} :\n{what.replace('--', chr(92) + '-' + chr(92) + '-')}.\n" for command, (name, value, what) in rows)
+
+
 def manual(table):
-    """What the manual has otherwise: its synopsis names of each command each option with its value, and its list of options has each."""
-    parts = dict(re.findall(r"^\.Sh (\w+)\n(.*?)(?=^\.Sh )", (TOP / MANUAL).read_text(), re.MULTILINE | re.DOTALL))
-    listed = set(re.findall(r"Fl \\-([\w-]+)", "\n".join(re.findall(r"^\.It .*", parts["OPTIONS"], re.MULTILINE))))
+    """The manual, with what is drawn of it drawn anew."""
+    text = (TOP / MANUAL).read_text()
+    head, _, rest = text.partition(".Sh SYNOPSIS\n")
+    before, _, rest = rest.partition(".Sh DESCRIPTION\n")[2].partition(BEGIN)
+    return f"{head}.Sh SYNOPSIS\n{synopsis()}.Sh DESCRIPTION\n{before}{BEGIN}{listed(table, before)}{END}{rest.partition(END)[2]}"
+
+
+def unlisted(table):
+    """The options of a command that its synopsis hasn't as the table has them."""
     for command, rows in table.items():
-        used = "".join(re.findall(rf"^\.Nm jwt Cm {command}\n(.*?)(?=^\.Nm |\Z)", parts["SYNOPSIS"], re.MULTILINE | re.DOTALL))
+        used = "".join(re.findall(rf"^\.Nm jwt Cm {command}\n(.*?)(?=^\.Nm |\Z)", synopsis(), re.MULTILINE | re.DOTALL))
         found, wanted = set(re.findall(r"Fl \\-([\w-]+)(?: Ar ([A-Z=]+))?", used)), {(name, value) for name, value, _ in rows}
-        yield from (f"{command} --{name}: not as the table of options has it" for name, _ in sorted(found ^ wanted))
-        yield from (f"{command} --{name}: not in the list of options" for name, _ in sorted(wanted) if name not in listed)
+        yield from (f"{command} --{name}" for name, _ in sorted(found ^ wanted))
 
 
-DRAWN = {"docs/jwt.bash": bash, "docs/jwt.zsh": zsh, "docs/jwt.fish": fish}
+DRAWN = {"docs/jwt.bash": lambda table: bash(briefly(table)), "docs/jwt.zsh": lambda table: zsh(briefly(table)), "docs/jwt.fish": lambda table: fish(briefly(table)), MANUAL: manual}
 
 
 def main():
@@ -148,9 +205,9 @@ def main():
         elif (TOP / path).read_text() != draw(table):
             failed += 1
             print(f"{path}: not what the table of options has: gate/options.py --write")
-    faults = list(manual(table))
+    faults = list(unlisted(table))
     for fault in faults:
-        print(f"{MANUAL}: {fault}")
+        print(f"docs/COMMAND.md: {fault}: not as the table of options has it")
     failed += bool(faults)
     print(f"{len(DRAWN) + 1 - failed} passed, {failed} failed")
     return int(failed > 0)

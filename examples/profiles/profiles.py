@@ -1,4 +1,4 @@
-"""The profiles: what each folder beside this file has, the tokens that are made of it, and what docs/PROFILES.md says of it.
+"""The profiles: what each folder beside this file has, and the tokens that are made of it. docs/PROFILES.md lists them.
 
 policy.json and access.json, where there is one, are written by hand, and so is tokens.json: the keys by their algorithms and names, a header, claims, and
 each token as a change of these. steps.tsv has a row for each token: the step of the standard that it breaks, what does this step, and the verdict.
@@ -7,7 +7,6 @@ from __future__ import annotations
 
 import json
 import pathlib
-import re
 import sys
 from typing import Any, Iterator, NamedTuple
 
@@ -100,35 +99,3 @@ def made_of(name: str) -> Iterator[tuple[pathlib.Path, str]]:
     yield HERE / name / "keys.json", key_set(made)
     for what, change in made["tokens"].items():
         yield HERE / name / "tokens" / f"{what}.jwt", token(made, change)
-
-
-# ---- docs/PROFILES.md
-
-
-def table_of(name: str) -> str:
-    """The table of a profile."""
-    head = "| Section | Step | What does it | Token | Verdict |\n|---|---|---|---|---|\n"
-    return head + "".join(f"| {it.section} | {it.step} | {it.by} | `{it.token}` | `{it.verdict}` |\n" for it in steps_of(name))
-
-
-def drawn(name: str, section: str) -> str:
-    """A section of the document with the profile's documents and its table in their places."""
-    blocks = [(HERE / name / "policy.json").read_text(), *(it.read_text() for it in [rule_of(name)] if it)]
-    parts = re.split(r"```json\n.*?^```\n", section, flags=re.M | re.S)
-    if len(parts) != len(blocks) + 1:
-        raise ValueError(f"docs/PROFILES.md has {len(parts) - 1} documents of {name}, and there are {len(blocks)}")
-    text = parts[0] + "".join(f"```json\n{block}```\n{part}" for block, part in zip(blocks, parts[1:]))
-    text, count = re.subn(r"(^\|.*\n)+", lambda _: table_of(name), text, flags=re.M)
-    if count != 1:
-        raise ValueError(f"docs/PROFILES.md has {count} tables of {name}")
-    return text
-
-
-def document() -> str:
-    """The document as it has to be."""
-    first, *sections = re.split(r"(?=^## )", DOCUMENT.read_text(), flags=re.M)
-    found = {match[1]: it for it in sections for match in [re.search(r"^## .*`([a-z0-9-]+)`$", it, re.M)] if match}
-    if sorted(found) != names():
-        raise ValueError(f"docs/PROFILES.md has the sections {sorted(found)}, and the profiles are {names()}")
-    places = {it: name for name, it in found.items()}
-    return first + "".join(drawn(places[it], it) if it in places else it for it in sections)

@@ -40,7 +40,7 @@ static void check_held(fow_validator *validator, size_t len)
     size_t written = 0;
     uint32_t status = fow_denied(validator, &access_rule, &denial);
     CHECK(status == FOW_OK || status == FOW_DENIED);
-    CHECK(status == FOW_OK ? denial == FOW_NO_FAULT : denial >= FOW_DENIED_SCOPE_MISSING && denial <= FOW_DENIED_CLAIM_NOT_ASCII);
+    CHECK(status == FOW_OK ? denial == FOW_NO_FAULT : is_of(denial, 10));
     CHECK(fow_denied(validator, &access_rule, &again) == status && again == denial);
     uint8_t *out = area_end(&rooms, len);
     CHECK(fow_denied_name(validator, &access_rule, out, len, &written) == (status == FOW_OK ? FOW_ABSENT : FOW_OK));

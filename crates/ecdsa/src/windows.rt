@@ -137,10 +137,10 @@ fn rough_windows<const N: usize, const KIND: usize>(
 {
     let f = &curve.field;
     let one = f.one();
-    let mut xs = Vec::new(alloc);
-    let mut ys = Vec::new(alloc);
-    let mut zs = Vec::new(alloc);
-    let mut products = Vec::new(alloc);
+    let mut xs = Vec::with_capacity(alloc, count)?;
+    let mut ys = Vec::with_capacity(alloc, count)?;
+    let mut zs = Vec::with_capacity(alloc, count)?;
+    let mut products = Vec::with_capacity(alloc, count + 1)?;
     let mut product = f.one();
     products.push(product)?;
     let mut double = Some(p);
@@ -192,8 +192,8 @@ pub fn make_windows<const N: usize, const KIND: usize>(
         return Ok(None);
     };
     let mut inverse = first;
-    let mut xs = Vec::new(alloc);
-    let mut ys = Vec::new(alloc);
+    let mut xs = Vec::with_capacity(alloc, count)?;
+    let mut ys = Vec::with_capacity(alloc, count)?;
     'rows: for r in 0..count {
         let k = count - 1 - r;
         let z = at(rough.zs.as_slice(), k);

@@ -73,6 +73,7 @@ pub use Rattle.jwt_service.specs.Laws as ServiceLaws
 pub use Rattle.jwt_service.specs.Paths as ServicePaths
 pub use Rattle.jwt_service.specs.Plain as PlainService
 pub use Rattle.jwt_service.specs.Proving
+pub use Rattle.jwt_service.specs.Recalled
 pub use Rattle.jwt_service.specs.Reply as ServiceReply
 pub use Rattle.jwt_service.specs.Rule as ServiceRule
 pub use Rattle.jwt_service.specs.Settled

@@ -23,7 +23,8 @@
 //! [`Shown`]: ask it of each token, a bearer's too.
 //!
 //! All of it is one question in a service: [`admit`] says whether a [`Service`] lets a request through, a [`Call`], and by which claims; else [`Admission::reply`] is what
-//! is answered to it. [`decide`] and [`Passed::settle`] are its two halves, for a store that several processes share.
+//! is answered to it. [`decide`] and [`Passed::settle`] are its two halves, for a store that several processes share. [`admit_by_memory`] spares the signature of a token that comes
+//! again.
 //!
 //! Each other name here is that of one of the libraries below: `jwt_text`, `jwt_mac`, `jwt_keys`, `jwt_jws`, `jwt_policy`, `jwt_access`,
 //! `jwt_verify`, `jwt_memory`, `jwt_possession`, `jwt_request` (whose `Outcome` is [`RequestOutcome`] here), `jwt_service`, `jwt_issue`, `jwt_built_in`, `jwt_rsa`, `ecdsa` and `jwt_ed25519`. Their modules `laws` stand
@@ -63,11 +64,12 @@ pub use jwt_possession::{
 pub use jwt_request::{Challenge, Outcome as RequestOutcome, Reply, Scheme, Schemes, Texts};
 pub use jwt_service::{
     Admission, AskingFault, Books, Call, Certificates, Issuer, NamedRule, Passed, Proofs,
-    ProvingFault, Refusal, Service, admit, decide,
+    ProvingFault, RecalledAdmission, RecalledDecision, Refusal, Service, admit, admit_by_memory,
+    decide, decide_by_memory,
 };
 
 // Judging the same token many times.
-pub use jwt_memory::{Basis, Outcome};
+pub use jwt_memory::{Basis, Memory, Outcome};
 pub use remembering::Remembering;
 
 // Verifiers of signatures by public keys.

@@ -1,9 +1,11 @@
 -- One message's cost fits, where key and message are short.
-use Rattle.std.proofs.Common.{◌≤◌, ℕ, ◌+◌, Bool, true, false, cond, arith}
-use Rattle.std.specs.Prelude.{nat_lt}
+use Rattle.std.proofs.Common.{◌≤◌, ℕ, ◌+◌, ◌*◌, Bool, true, false, cond, arith}
+use Rattle.std.specs.Prelude.{nat_lt, if◌then◌else◌}
 use Rattle.jwt_mac.specs.declared.algorithm.Alg.{Alg}
-use Rattle.jwt_mac.specs.declared.algorithm.Alg.TheVariants.{HS256, HS384, HS512, RS256, RS384, RS512, PS256, PS384, PS512, ES256, ES384, ES512, EdDSA}
-use Rattle.jwt_mac.specs.Algorithm.{try_cost}
+use Rattle.jwt_mac.specs.declared.algorithm.Hash.TheVariants.{Sha256, Sha384, Sha512}
+use Rattle.jwt_mac.specs.declared.algorithm.Kind.{Kind}
+use Rattle.jwt_mac.specs.declared.algorithm.Kind.TheVariants.{Hmac}
+use Rattle.jwt_mac.specs.Algorithm.{kind_of, is_hmac, block_by, digest_by, key_cost, try_cost}
 
 at_most : (b : Bool) (k : ℕ) → cond b k 0 ≤ k
 at_most true k = omega arith
@@ -11,16 +13,10 @@ at_most false k = omega arith
 
 pub cost_is_small : (alg : Alg) (k m : ℕ) → try_cost alg k m ≤ m + k + 320
 unfolding try_cost
-cost_is_small HS256 k m = let less = at_most (nat_lt 64 k) k in omega arith
-cost_is_small HS384 k m = let less = at_most (nat_lt 128 k) k in omega arith
-cost_is_small HS512 k m = let less = at_most (nat_lt 128 k) k in omega arith
-cost_is_small RS256 k m = omega arith
-cost_is_small RS384 k m = omega arith
-cost_is_small RS512 k m = omega arith
-cost_is_small PS256 k m = omega arith
-cost_is_small PS384 k m = omega arith
-cost_is_small PS512 k m = omega arith
-cost_is_small ES256 k m = omega arith
-cost_is_small ES384 k m = omega arith
-cost_is_small ES512 k m = omega arith
-cost_is_small EdDSA k m = omega arith
+cost_is_small alg k m = by (kind_of alg)
+  where
+    by : (kind : Kind) → (if is_hmac kind then m + 2 * block_by kind + digest_by kind + key_cost (block_by kind) k else 0) ≤ m + k + 320
+    by (Hmac Sha256) = let less = at_most (nat_lt 64 k) k in omega arith
+    by (Hmac Sha384) = let less = at_most (nat_lt 128 k) k in omega arith
+    by (Hmac Sha512) = let less = at_most (nat_lt 128 k) k in omega arith
+    by _ = omega arith

@@ -12,15 +12,19 @@ pub mod Given
 pub mod Entries
 -- what the issuers of a service say together
 pub mod Together
--- what members need of each other
+-- what members need of each other, and of secrets
 pub mod Needs
 -- the rules of a service, by name
 pub mod Rules
 -- the document of a service, or the first cause to refuse it
 pub mod Documents
+-- the keys that stand in the document in PEM
+pub mod Pem
+-- what a document that was read says, object by object, with what holds where a member is absent
+pub mod Said
 -- a document as contracts see it
 pub mod Meanings
 -- ---- What contracts of private functions alone cite, which nobody has to believe
 
--- rows, tables and faults as contracts see them
+-- rows, tables, faults and answers as contracts see them
 pub mod Views

@@ -119,9 +119,9 @@ keys = record {
       ∷ row (codes "file") (text form.Any 1 4096) nothing
       ∷ row (codes "url") (text form.Any 1 4096) nothing
       ∷ row (codes "discover") given nothing
-      ∷ row (codes "refresh_after") (whole 0 31536000) nothing
-      ∷ row (codes "max_age") (whole 1 31536000) nothing
-      ∷ row (codes "cool_down") (whole 0 31536000) nothing
+      ∷ row (codes "refresh_after") (whole 0 31536000) (number 600)
+      ∷ row (codes "max_age") (whole 1 31536000) (number 3600)
+      ∷ row (codes "cool_down") (whole 0 31536000) (number 30)
       ∷ row (codes "timeout") (whole 1 3600) (number 5)
       ∷ row (codes "http") flag nothing
       ∷ [];

@@ -1,13 +1,14 @@
 -- The tables of members, and the first fault of an object by them.
-use Rattle.std.specs.Prelude.{ℕ, ℤ, pos, negsuc, List, [], ◌∷◌, Bool, true, false, not, ◌&&◌, nat_le, ◌==◌, if◌then◌else◌, Option, Some, None, option_map, option_and_then, length, codes, unwrap_or}
+use Rattle.std.specs.Prelude.{ℕ, ℤ, pos, negsuc, ◌+◌, List, [], ◌∷◌, Bool, true, false, not, ◌&&◌, nat_le, ◌==◌, if◌then◌else◌, Option, Some, None, is_some, option_map, option_and_then, length, codes, unwrap_or}
 use Rattle.std.specs.List.{list_any, list_all, find}
 use Rattle.std.specs.Str.{bytes_eq}
 use Rattle.std.specs.Option.{option_map_or, option_or}
 use Rattle.jwt_mac.specs.Algorithm.{alg_named, is_hmac_alg}
 use Rattle.serde_json.specs.Data.{Data, Members}
-use Rattle.jwt_text.specs.Members.{has, text_at, whole_at, flag_at, list_at, object_at, member_names, are_texts}
+use Rattle.serde_json.specs.Find.{as_str}
+use Rattle.jwt_text.specs.Members.{has, text_at, whole_at, flag_at, list_at, object_at, member_names}
 use Rattle.jwt_request.specs.urls.Urls.{url_where}
-use Rattle.jwt_policy.specs.Texts.{is_among, each_text}
+use Rattle.jwt_policy.specs.Texts.{is_among}
 use Rattle.jwt_document.specs.declared.rows.Form.{Form}
 use Rattle.jwt_document.specs.declared.rows.Form.TheVariants as form
 use Rattle.jwt_document.specs.Rows.{Kind, flag, given, whole, text, texts, word, an_object, items, Absent, refused, number, Row, Within, the_whole, member, inner, Table}
@@ -54,38 +55,62 @@ is_element f t = nat_le 1 (length t) && is_form f t
 
 -- ---- a member
 
--- another kind, or a value that doesn't pass
-abbrev pub unless_passes : {A : Type 0} → (A → Bool) → Option A → Option Cause
-unless_passes test None = Some cause.Kind
-unless_passes test (Some x) = if test x then None else Some cause.Range
+-- what is wrong: the cause, and where it is about an element of a list, which one
+pub record Ill : Type 0 where
+  pub cause : Cause
+  pub element : Option ℕ
 
-abbrev pub texts_or_none : List Data → Option (List Data)
-texts_or_none ds = if are_texts ds then Some ds else None
+abbrev pub unless : Bool → Cause → Option Ill
+unless passes cause = if passes then None else Some (record { cause = cause; element = None })
+
+-- another kind, or a value that doesn't pass
+abbrev pub unless_passes : {A : Type 0} → (A → Bool) → Option A → Option Ill
+unless_passes test None = unless false cause.Kind
+unless_passes test (Some x) = unless (test x) cause.Range
+
+-- no text, or one that doesn't pass
+abbrev pub element_cause : Form → Option (List ℕ) → Option Cause
+element_cause f None = Some cause.Kind
+element_cause f (Some t) = if is_element f t then None else Some cause.Range
+
+-- the element of this number, where it is bad, else this
+abbrev pub bad_or : ℕ → Option Cause → Option Ill → Option Ill
+bad_or n (Some c) rest = Some (record { cause = c; element = Some n })
+bad_or n None rest = rest
+
+-- the first element that is bad, where the first of these has this number
+abbrev pub first_bad : Form → ℕ → List Data → Option Ill
+first_bad f n [] = None
+first_bad f n (d ∷ ds) = bad_or n (element_cause f (as_str d)) (first_bad f (n + 1) ds)
+
+abbrev pub texts_ill : Form → ℕ → ℕ → List Data → Option Ill
+texts_ill f least most ds = if nat_le least (length ds) && nat_le (length ds) most then first_bad f 0 ds else unless false cause.Range
 
 -- why a member that is there isn't of its kind
-abbrev pub cause_in : Kind → List ℕ → Members → Option Cause
-cause_in flag name ms = unless_passes (λ b. true) (flag_at name ms)
-cause_in given name ms = unless_passes (λ b. b) (flag_at name ms)
-cause_in (whole least most) name ms = unless_passes (between least most) (whole_at name ms)
-cause_in (text f least most) name ms = unless_passes (text_passes f least most) (text_at name ms)
-cause_in (texts f least most) name ms = unless_passes (λ ds. nat_le least (length ds) && nat_le (length ds) most && each_text (is_element f) ds) (option_and_then texts_or_none (list_at name ms))
-cause_in (word words) name ms = unless_passes (is_among (words)) (text_at name ms)
-cause_in an_object name ms = unless_passes (λ o. true) (object_at name ms)
-cause_in (items most) name ms = unless_passes (λ ds. nat_le (length ds) most) (list_at name ms)
+abbrev pub ill_in : Kind → List ℕ → Members → Option Ill
+ill_in flag name ms = unless (is_some (flag_at name ms)) cause.Kind
+ill_in given name ms = unless_passes (λ b. b) (flag_at name ms)
+ill_in (whole least most) name ms = unless_passes (between least most) (whole_at name ms)
+ill_in (text f least most) name ms = unless_passes (text_passes f least most) (text_at name ms)
+ill_in (texts f least most) name ms = option_map_or (texts_ill f least most) (list_at name ms) (unless false cause.Kind)
+ill_in (word words) name ms = unless_passes (is_among words) (text_at name ms)
+ill_in an_object name ms = unless (is_some (object_at name ms)) cause.Kind
+ill_in (items most) name ms = unless_passes (λ ds. nat_le (length ds) most) (list_at name ms)
 
-abbrev pub absent_cause : Absent → Option Cause
-absent_cause refused = Some cause.Missing
-absent_cause _ = None
+abbrev pub absent_ill : Absent → Option Ill
+absent_ill refused = unless false cause.Missing
+absent_ill _ = None
 
-abbrev pub row_cause : Members → Row → Option Cause
-row_cause ms row = if has row.name ms then cause_in row.kind row.name ms else absent_cause row.absent
+abbrev pub row_ill : Members → Row → Option Ill
+row_ill ms row = if has row.name ms then ill_in row.kind row.name ms else absent_ill row.absent
 
 -- ---- an object
 
--- a cause, and the name of the member
+-- a cause, the name of the member, and which of its elements
 pub record Wrong : Type 0 where
   pub cause : Cause
   pub name : List ℕ
+  pub element : Option ℕ
 
 abbrev pub is_known : List Row → List ℕ → Bool
 is_known rows name = list_any (λ row. bytes_eq name row.name) rows
@@ -97,10 +122,10 @@ unknown_in rows ms = find (λ name. not (is_known rows name)) (member_names ms)
 -- the first row whose member is refused
 abbrev pub wrong_in : Members → List Row → Option Wrong
 wrong_in ms [] = None
-wrong_in ms (row ∷ rows) = elim (row_cause ms row) [ Some c ↦ Some (record { cause = c; name = row.name }) | None ↦ wrong_in ms rows ]
+wrong_in ms (row ∷ rows) = elim (row_ill ms row) [ Some i ↦ Some (record { cause = i.cause; name = row.name; element = i.element }) | None ↦ wrong_in ms rows ]
 
 abbrev pub unless_unknown : Option (List ℕ) → Option Wrong → Option Wrong
-unless_unknown (Some name) wrong = Some (record { cause = cause.Unknown; name = name })
+unless_unknown (Some name) wrong = Some (record { cause = cause.Unknown; name = name; element = None })
 unless_unknown None wrong = wrong
 
 -- an unknown name, else row by row
@@ -113,6 +138,7 @@ pub record Fault : Type 0 where
   pub cause : Cause
   pub within : Within
   pub name : List ℕ
+  pub element : Option ℕ
 
 -- the object that a table is of, where it is there
 abbrev pub object_within : Within → Members → Option Members
@@ -121,7 +147,7 @@ object_within (member name) ms = object_at name ms
 object_within (inner outer name) ms = option_and_then (object_at name) (object_at outer ms)
 
 abbrev pub placed : Within → Wrong → Fault
-placed w wrong = record { cause = wrong.cause; within = w; name = wrong.name }
+placed w wrong = record { cause = wrong.cause; within = w; name = wrong.name; element = wrong.element }
 
 abbrev pub table_fault : Members → Table → Option Fault
 table_fault ms table = option_map (placed table.within) (option_and_then (fault_in table.rows) (object_within table.within ms))

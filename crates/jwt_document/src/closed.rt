@@ -2,21 +2,30 @@
 
 ghost use Rattle.std.specs.Prelude.{◌≡◌, map, option_map};
 ghost use Rattle.std.specs.List.{list_any, list_all};
-ghost use Rattle.jwt_policy.specs.Texts.{is_among, each_text};
-ghost use Rattle.jwt_document.specs.Tables.{between, is_printable, is_origin, is_public, is_free, is_form, text_passes, is_element, cause_in, row_cause, is_known, unknown_in, wrong_in, fault_in, table_fault};
-ghost use Rattle.jwt_document.specs.Views.{found, wrong, kind_view, row_view, table_view};
+ghost use Rattle.jwt_policy.specs.Texts.{is_among};
+ghost use Rattle.serde_json.specs.Find.{as_str};
+ghost use Rattle.jwt_document.specs.Tables.{unless, texts_ill, between, is_printable, is_origin, is_public, is_free, is_form, text_passes, is_element, element_cause, first_bad, ill_in, row_ill, is_known, unknown_in, wrong_in, fault_in, table_fault};
+ghost use Rattle.jwt_document.specs.Views.{found, ill, wrong, kind_view, row_view, table_view};
 
 use crate::rows::{Absent, Cause, Form, Kind, Row, Within};
 use jwt_mac::Alg;
 use jwt_request::urls::url_of;
 use jwt_text::{List, ObjectRef};
 
-/// A fault: its cause, and the member, which may be absent.
+/// A fault: its cause, the member, which may be absent, and where it is about an element of a list, which one.
 #[derive(Clone, Copy)]
 pub(crate) struct Found<'a> {
     pub(crate) cause: Cause,
     pub(crate) within: Within,
     pub(crate) name: &'a str,
+    pub(crate) element: Option<usize>,
+}
+
+/// What is wrong with a value, or with which of its elements.
+#[derive(Clone, Copy)]
+struct Ill {
+    cause: Cause,
+    element: Option<usize>,
 }
 
 /// A member that is wrong.
@@ -24,6 +33,7 @@ pub(crate) struct Found<'a> {
 struct Wrong<'a> {
     cause: Cause,
     name: &'a str,
+    element: Option<usize>,
 }
 
 // ---- values
@@ -116,111 +126,106 @@ fn is_element(form: Form, text: &str) -> bool
     1 <= text.len() && is_form(form, text)
 }
 
-/// Whether each element is a text of this form and not empty.
-#[tactic(auto, using(jwt_policy::proofs::ItemsLemmas::each_more, std::proofs::lemmas::List::at_drop_all))]
-fn each_passes(form: Form, list: &List<'_>) -> bool
-    ensures { result ≡ each_text (is_element form) list.now }
+/// Why the element is none of a list of texts of this form, where it is the text that is given, or no text.
+fn element_cause(form: Form, element: Option<&str>) -> Option<Cause>
+    ensures { result ≡ element_cause form (option_map (λ t. t.now) element.entry) }
+{
+    match element {
+        None => Some(Cause::Kind),
+        Some(text) => {
+            if is_element(form, text) {
+                None
+            } else {
+                Some(Cause::Range)
+            }
+        }
+    }
+}
+
+/// The first element that is no text of this form, or an empty one.
+#[tactic(auto, using(crate::proofs::ElementLemmas::bad_here, crate::proofs::ElementLemmas::good_here, std::proofs::lemmas::List::at_drop_all))]
+fn first_bad(form: Form, list: &List<'_>) -> Option<Ill>
+    ensures { option_map ill result ≡ first_bad form 0 list.now }
 {
     for place in 0..list.len() {
-        match list.text(place) {
-            Some(text) => {
-                if !is_element(form, text) {
-                    return false;
-                }
-            }
-            None => return false,
+        if let Some(cause) = element_cause(form, list.text(place)) {
+            return Some(Ill {
+                cause,
+                element: Some(place),
+            });
         }
     }
-    true
+    None
 }
 
-/// Why this member isn't of the kind.
-fn cause_in(kind: Kind, name: &str, members: &ObjectRef<'_>) -> Option<Cause>
-    ensures { result ≡ cause_in (kind_view kind) name.now members.now }
+/// Nothing where the value passes, else this cause.
+fn unless(passes: bool, cause: Cause) -> Option<Ill>
+    ensures { option_map ill result ≡ unless passes cause }
+{
+    if passes {
+        None
+    } else {
+        Some(Ill {
+            cause,
+            element: None,
+        })
+    }
+}
+
+/// What is wrong with a list of at least and at most so many texts of this form.
+fn texts_ill(form: Form, least: usize, most: usize, list: &List<'_>) -> Option<Ill>
+    ensures { option_map ill result ≡ texts_ill form least most list.now }
+{
+    if least <= list.len() && list.len() <= most {
+        first_bad(form, list)
+    } else {
+        unless(false, Cause::Range)
+    }
+}
+
+/// What is wrong with this member, which isn't of the kind.
+fn ill_in(kind: Kind, name: &str, members: &ObjectRef<'_>) -> Option<Ill>
+    ensures { option_map ill result ≡ ill_in (kind_view kind) name.now members.now }
 {
     match kind {
-        Kind::Flag => {
-            if members.flag(name).is_some() {
-                None
-            } else {
-                Some(Cause::Kind)
-            }
-        }
+        Kind::Flag => unless(members.flag(name).is_some(), Cause::Kind),
         Kind::Given => match members.flag(name) {
-            None => Some(Cause::Kind),
-            Some(given) => { if given { None } else { Some(Cause::Range) } }
+            None => unless(false, Cause::Kind),
+            Some(given) => unless(given, Cause::Range),
         },
         Kind::Whole(least, most) => match members.whole(name) {
-            None => Some(Cause::Kind),
-            Some(value) => {
-                if is_between(least, most, value) {
-                    None
-                } else {
-                    Some(Cause::Range)
-                }
-            }
+            None => unless(false, Cause::Kind),
+            Some(value) => unless(is_between(least, most, value), Cause::Range),
         },
         Kind::Text(form, least, most) => match members.text(name) {
-            None => Some(Cause::Kind),
-            Some(text) => {
-                if text_passes(form, least, most, text) {
-                    None
-                } else {
-                    Some(Cause::Range)
-                }
-            }
+            None => unless(false, Cause::Kind),
+            Some(text) => unless(text_passes(form, least, most, text), Cause::Range),
         },
         Kind::Word(words) => match members.text(name) {
-            None => Some(Cause::Kind),
-            Some(text) => {
-                if is_word(words, text) {
-                    None
-                } else {
-                    Some(Cause::Range)
-                }
-            }
+            None => unless(false, Cause::Kind),
+            Some(text) => unless(is_word(words, text), Cause::Range),
         },
         Kind::Texts(form, least, most) => match members.list(name) {
-            None => Some(Cause::Kind),
-            Some(list) => {
-                if !list.are_texts() {
-                    Some(Cause::Kind)
-                } else if least <= list.len() && list.len() <= most && each_passes(form, &list) {
-                    None
-                } else {
-                    Some(Cause::Range)
-                }
-            }
+            None => unless(false, Cause::Kind),
+            Some(list) => texts_ill(form, least, most, &list),
         },
-        Kind::Object => {
-            if members.object(name).is_some() {
-                None
-            } else {
-                Some(Cause::Kind)
-            }
-        }
+        Kind::Object => unless(members.object(name).is_some(), Cause::Kind),
         Kind::List(most) => match members.list(name) {
-            None => Some(Cause::Kind),
-            Some(list) => {
-                if list.len() <= most {
-                    None
-                } else {
-                    Some(Cause::Range)
-                }
-            }
+            None => unless(false, Cause::Kind),
+            Some(list) => unless(list.len() <= most, Cause::Range),
         },
     }
 }
 
-/// Why the member of this row is refused.
-fn row_cause(row: &Row, members: &ObjectRef<'_>) -> Option<Cause>
-    ensures { result ≡ row_cause members.now (row_view row.now) }
+/// What is wrong with the member of this row.
+fn row_ill(row: &Row, members: &ObjectRef<'_>) -> Option<Ill>
+    ensures { option_map ill result ≡ row_ill members.now (row_view row.now) }
 {
     if members.has(row.name) {
-        return cause_in(row.kind, row.name, members);
+        return ill_in(row.kind, row.name, members);
     }
     match row.absent {
-        Absent::Refused => Some(Cause::Missing),
+        Absent::Refused => unless(false, Cause::Missing),
         _ => None,
     }
 }
@@ -262,10 +267,11 @@ fn first_wrong(rows: &[Row], members: &ObjectRef<'_>) -> Option<Wrong<'static>>
     ensures { option_map wrong result ≡ wrong_in members.now (map row_view rows.now) }
 {
     for row in rows {
-        if let Some(cause) = row_cause(row, members) {
+        if let Some(ill) = row_ill(row, members) {
             return Some(Wrong {
-                cause,
+                cause: ill.cause,
                 name: row.name,
+                element: ill.element,
             });
         }
     }
@@ -280,11 +286,13 @@ fn fault_in<'a>(rows: &[Row], members: &ObjectRef<'a>) -> Option<Wrong<'a>>
         Some(name) => Some(Wrong {
             cause: Cause::Unknown,
             name,
+            element: None,
         }),
         None => match first_wrong(rows, members) {
             Some(wrong) => Some(Wrong {
                 cause: wrong.cause,
                 name: wrong.name,
+                element: wrong.element,
             }),
             None => None,
         },
@@ -309,6 +317,7 @@ pub(crate) fn table_fault<'a>(
             cause: wrong.cause,
             within,
             name: wrong.name,
+            element: wrong.element,
         }),
         None => None,
     }

@@ -6,8 +6,11 @@ ghost use Rattle.jwt_document.specs.Rows.{within_view};
 ghost use Rattle.jwt_document.specs.Views.{found};
 
 use crate::closed::Found;
+use crate::place::Place;
 use crate::rows::{Cause, Within};
+use crate::words::{line_of, nearest_to, place_of};
 use jwt_access::AccessFault;
+use jwt_jwk::JwkFault;
 use jwt_keys::KeysFault;
 use jwt_policy::PolicyFault;
 use std::alloc::{AllocError, AllocFailed, Global};
@@ -19,6 +22,7 @@ pub struct FaultAt {
     cause: Cause,
     within: Within,
     name: String,
+    element: Option<usize>,
 }
 
 impl Model for FaultAt {
@@ -32,6 +36,7 @@ impl Model for FaultAt {
       cause = f.cause;
       within = within_view f.within;
       name = string_bytes f.name;
+      element = f.element;
     } };
 }
 
@@ -45,6 +50,7 @@ impl FaultAt {
             cause: fault.cause,
             within: fault.within,
             name,
+            element: fault.element,
         })
     }
 
@@ -67,6 +73,13 @@ impl FaultAt {
         ensures { result.now ≡ self.now.name }
     {
         self.name.as_str()
+    }
+
+    /// Which of its elements it is, counted from 0, where it is about one of a list.
+    pub fn element(&self) -> Option<usize>
+        ensures { result ≡ self.now.element }
+    {
+        self.element
     }
 }
 
@@ -139,9 +152,30 @@ pub enum ServiceFault {
     NotPublic(usize),
     /// The rule of this name is refused.
     Rule(RuleName, AccessFault),
+    /// No keys can be had of the text in PEM of the entry of this number.
+    Pem(usize, JwkFault),
 }
 
 impl ServiceFault {
+    /// The fault in one line, which says where it is and what is wrong: `issuers[1].keys: unknown member "urll", did you mean "url"?`. It has no control character, and of
+    /// the document no more than names of members.
+    ///
+    /// # Errors
+    /// Where an allocation was refused, here and below.
+    pub fn line(&self, alloc: Global) -> Result<String, AllocError> {
+        line_of(alloc, self)
+    }
+
+    /// The name of a member that is near to an unknown one: one edit leads to it, or else two.
+    pub fn nearest(&self, alloc: Global) -> Result<Option<&'static str>, AllocError> {
+        nearest_to(alloc, self)
+    }
+
+    /// Where in the document what the fault is about stands, or would stand; none where that isn't known, as of a name that stands twice.
+    pub fn place(&self, alloc: Global, document: &[u8]) -> Result<Option<Place>, AllocError> {
+        place_of(alloc, self, document)
+    }
+
     /// A member of an entry is refused.
     pub(crate) fn entry(alloc: Global, number: usize, fault: Found<'_>) -> ServiceFault
         ensures { result ≢ ServiceFault.OutOfMemory → result ≡ ServiceFault.Entry number (found fault.entry) }

@@ -43,7 +43,7 @@ fn is_usable_at(algs: &[Alg], keys: &KeySet, number: u32) -> bool
 
 /// Whether one of the keys verifies by one of these algorithms.
 #[tactic(auto, using(std::proofs::lemmas::List::at_drop_more, std::proofs::lemmas::List::at_drop_all))]
-fn has_usable(algs: &[Alg], keys: &KeySet) -> bool
+pub(crate) fn has_usable(algs: &[Alg], keys: &KeySet) -> bool
     ensures { result ≡ has_usable algs.now (key_set keys.now).keys }
 {
     for number in 0..keys.len() {
@@ -54,12 +54,19 @@ fn has_usable(algs: &[Alg], keys: &KeySet) -> bool
     false
 }
 
-/// Whether an algorithm is HMAC that asks for a secret of more octets than so many.
+/// Whether the algorithm is HMAC that asks for a secret of more octets than so many.
+pub(crate) fn is_short_for(size: usize, alg: Alg) -> bool
+    ensures { result ≡ is_short size alg }
+{
+    size < alg.digest() as usize
+}
+
+/// Whether one of these algorithms is.
 fn is_short(size: usize, algs: &[Alg]) -> bool
     ensures { result ≡ list_any (is_short size) algs.now }
 {
     for alg in algs {
-        if size < alg.digest() as usize {
+        if is_short_for(size, *alg) {
             return true;
         }
     }

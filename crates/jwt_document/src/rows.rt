@@ -81,4 +81,8 @@ pub enum Cause {
     Kind,
     /// Its value is out of its range.
     Range,
+    /// Exactly one of some members has to be there, in it or beside it.
+    Together,
+    /// It is a secret of too few octets.
+    Short,
 }

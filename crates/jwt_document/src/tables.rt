@@ -22,108 +22,18 @@ macro_rules! row {
     };
 }
 
-// ---- the whole
-
-const SERVICE: [Row; 15] = [
-    row!("version", Whole(1, 1), Number(1)),
-    row!("issuers", List(64), Refused),
-    row!("rules", Object, Nothing),
-    row!("realm", Text(Printable, 0, 256), Said("jwt")),
-    row!("describe", Flag, Nothing),
-    row!("earliest", Whole(0, 4_294_967_295), Number(1_577_836_800)),
-    row!("prepare", Whole(0, 1_024), Number(16)),
-    row!("remember", Object, Nothing),
-    row!("expects", Texts(Any, 0, 64), Listed(&[])),
-    row!("once", Flag, Nothing),
-    row!("dpop", Object, Nothing),
-    row!("certificates", Word(&["bound", "required"]), Nothing),
-    row!("memory", Object, Nothing),
-    row!("issue", Object, Nothing),
-    row!("onward", Object, Nothing),
-];
-
-// ---- remember
-
-const REMEMBER_ROWS: [Row; 2] = [
-    row!("tokens", Whole(1, 1_000_000), Refused),
-    row!("longest", Whole(1, 1_048_576), Number(4_096)),
-];
-
-// ---- dpop
-
-const DPOP_ROWS: [Row; 6] = [
-    row!("origins", Texts(Origin, 1, 64), Refused),
-    row!("only", Flag, Nothing),
-    row!("algs", Texts(PublicAlg, 1, 64), Listed(&["ES256", "EdDSA"])),
-    row!("max_age", Whole(1, 3_600), Number(60)),
-    row!("leeway", Whole(0, 300), Number(5)),
-    row!("nonce", Object, Nothing),
-];
-
-const NONCE_ROWS: [Row; 2] = [
-    row!("secret", Text(Any, 1, 4_096), Refused),
-    row!("period", Whole(1, 86_400), Number(60)),
-];
-
-// ---- memory
-
-const MEMORY_ROWS: [Row; 4] = [
-    row!("proofs", Whole(1, 100_000_000), Nothing),
-    row!("tokens", Whole(1, 100_000_000), Nothing),
-    row!("share", Whole(1, 1_000), Number(16)),
-    row!("earlier", Flag, Nothing),
-];
-
-// ---- issue and onward
-
-const ISSUE_ROWS: [Row; 6] = [
-    row!("set", Object, Nothing),
-    row!("secret", Text(Any, 1, 4_096), Nothing),
-    row!("alg", Word(&["HS256", "HS384", "HS512"]), Refused),
-    row!("typ", Text(Any, 1, 256), Nothing),
-    row!(
-        "form",
-        Word(&["compact", "flattened", "general"]),
-        Said("compact")
-    ),
-    row!("key", Whole(0, 1_023), Number(0)),
-];
-
-const ONWARD_ROWS: [Row; 4] = [
-    row!("issuer", Text(Any, 0, 4_096), Refused),
-    row!("audience", Text(Any, 0, 4_096), Refused),
-    row!("lifetime", Whole(1, 86_400), Number(60)),
-    row!("claims", Texts(FreeClaim, 0, 64), Listed(&["sub", "scope"])),
-];
-
 // ---- an entry of `issuers`
-
-const ENTRY: [Row; 3] = [
-    row!("policy", Object, Refused),
-    row!("keys", Object, Refused),
-    row!("lasting", Flag, Nothing),
-];
-
-const KEYS_ROWS: [Row; 11] = [
-    row!("set", Object, Nothing),
-    row!("pem", Text(Any, 1, 1_048_576), Nothing),
-    row!("secret", Text(Any, 1, 4_096), Nothing),
-    row!("file", Text(Any, 1, 4_096), Nothing),
-    row!("url", Text(Any, 1, 4_096), Nothing),
-    row!("discover", Given, Nothing),
-    row!("refresh_after", Whole(0, 31_536_000), Nothing),
-    row!("max_age", Whole(1, 31_536_000), Nothing),
-    row!("cool_down", Whole(0, 31_536_000), Nothing),
-    row!("timeout", Whole(1, 3_600), Number(5)),
-    row!("http", Flag, Nothing),
-];
 
 /// The rows of the table.
 #[tactic(auto, unfolding(crate::specs::Service::entry))]
 pub(crate) fn entry_rows() -> [Row; 3]
     ensures { map row_view result ≡ rows_of entry }
 {
-    ENTRY
+    [
+        row!("policy", Object, Refused),
+        row!("keys", Object, Refused),
+        row!("lasting", Flag, Nothing),
+    ]
 }
 
 #[tactic(auto, unfolding(crate::specs::Service::entry))]
@@ -139,7 +49,19 @@ fn in_entry<'a>(members: &ObjectRef<'a>) -> Option<Found<'a>>
 pub(crate) fn keys_rows() -> [Row; 11]
     ensures { map row_view result ≡ rows_of keys }
 {
-    KEYS_ROWS
+    [
+        row!("set", Object, Nothing),
+        row!("pem", Text(Any, 1, 1_048_576), Nothing),
+        row!("secret", Text(Any, 1, 4_096), Nothing),
+        row!("file", Text(Any, 1, 4_096), Nothing),
+        row!("url", Text(Any, 1, 4_096), Nothing),
+        row!("discover", Given, Nothing),
+        row!("refresh_after", Whole(0, 31_536_000), Number(600)),
+        row!("max_age", Whole(1, 31_536_000), Number(3_600)),
+        row!("cool_down", Whole(0, 31_536_000), Number(30)),
+        row!("timeout", Whole(1, 3_600), Number(5)),
+        row!("http", Flag, Nothing),
+    ]
 }
 
 #[tactic(auto, unfolding(crate::specs::Service::keys))]
@@ -167,7 +89,23 @@ pub(crate) fn entry_fault<'a>(members: &ObjectRef<'a>) -> Option<Found<'a>>
 pub(crate) fn the_service_rows() -> [Row; 15]
     ensures { map row_view result ≡ rows_of the_service }
 {
-    SERVICE
+    [
+        row!("version", Whole(1, 1), Number(1)),
+        row!("issuers", List(64), Refused),
+        row!("rules", Object, Nothing),
+        row!("realm", Text(Printable, 0, 256), Said("jwt")),
+        row!("describe", Flag, Nothing),
+        row!("earliest", Whole(0, 4_294_967_295), Number(1_577_836_800)),
+        row!("prepare", Whole(0, 1_024), Number(16)),
+        row!("remember", Object, Nothing),
+        row!("expects", Texts(Any, 0, 64), Listed(&[])),
+        row!("once", Flag, Nothing),
+        row!("dpop", Object, Nothing),
+        row!("certificates", Word(&["bound", "required"]), Nothing),
+        row!("memory", Object, Nothing),
+        row!("issue", Object, Nothing),
+        row!("onward", Object, Nothing),
+    ]
 }
 
 #[tactic(auto, unfolding(crate::specs::Service::the_service))]
@@ -183,7 +121,10 @@ fn in_the_service<'a>(members: &ObjectRef<'a>) -> Option<Found<'a>>
 pub(crate) fn remembering_rows() -> [Row; 2]
     ensures { map row_view result ≡ rows_of remembering }
 {
-    REMEMBER_ROWS
+    [
+        row!("tokens", Whole(1, 1_000_000), Refused),
+        row!("longest", Whole(1, 1_048_576), Number(4_096)),
+    ]
 }
 
 #[tactic(auto, unfolding(crate::specs::Service::remembering))]
@@ -199,7 +140,14 @@ fn in_remembering<'a>(members: &ObjectRef<'a>) -> Option<Found<'a>>
 pub(crate) fn dpop_rows() -> [Row; 6]
     ensures { map row_view result ≡ rows_of dpop }
 {
-    DPOP_ROWS
+    [
+        row!("origins", Texts(Origin, 1, 64), Refused),
+        row!("only", Flag, Nothing),
+        row!("algs", Texts(PublicAlg, 1, 64), Listed(&["ES256", "EdDSA"])),
+        row!("max_age", Whole(1, 3_600), Number(60)),
+        row!("leeway", Whole(0, 300), Number(5)),
+        row!("nonce", Object, Nothing),
+    ]
 }
 
 #[tactic(auto, unfolding(crate::specs::Service::dpop))]
@@ -215,7 +163,10 @@ fn in_dpop<'a>(members: &ObjectRef<'a>) -> Option<Found<'a>>
 pub(crate) fn nonce_rows() -> [Row; 2]
     ensures { map row_view result ≡ rows_of nonce }
 {
-    NONCE_ROWS
+    [
+        row!("secret", Text(Any, 1, 4_096), Refused),
+        row!("period", Whole(1, 86_400), Number(60)),
+    ]
 }
 
 #[tactic(auto, unfolding(crate::specs::Service::nonce))]
@@ -231,7 +182,12 @@ fn in_nonce<'a>(members: &ObjectRef<'a>) -> Option<Found<'a>>
 pub(crate) fn memory_rows() -> [Row; 4]
     ensures { map row_view result ≡ rows_of memory }
 {
-    MEMORY_ROWS
+    [
+        row!("proofs", Whole(1, 100_000_000), Nothing),
+        row!("tokens", Whole(1, 100_000_000), Nothing),
+        row!("share", Whole(1, 1_000), Number(16)),
+        row!("earlier", Flag, Nothing),
+    ]
 }
 
 #[tactic(auto, unfolding(crate::specs::Service::memory))]
@@ -247,7 +203,18 @@ fn in_memory<'a>(members: &ObjectRef<'a>) -> Option<Found<'a>>
 pub(crate) fn issue_rows() -> [Row; 6]
     ensures { map row_view result ≡ rows_of issue }
 {
-    ISSUE_ROWS
+    [
+        row!("set", Object, Nothing),
+        row!("secret", Text(Any, 1, 4_096), Nothing),
+        row!("alg", Word(&["HS256", "HS384", "HS512"]), Refused),
+        row!("typ", Text(Any, 1, 256), Nothing),
+        row!(
+            "form",
+            Word(&["compact", "flattened", "general"]),
+            Said("compact")
+        ),
+        row!("key", Whole(0, 1_023), Number(0)),
+    ]
 }
 
 #[tactic(auto, unfolding(crate::specs::Service::issue))]
@@ -263,7 +230,12 @@ fn in_issue<'a>(members: &ObjectRef<'a>) -> Option<Found<'a>>
 pub(crate) fn onward_rows() -> [Row; 4]
     ensures { map row_view result ≡ rows_of onward }
 {
-    ONWARD_ROWS
+    [
+        row!("issuer", Text(Any, 0, 4_096), Refused),
+        row!("audience", Text(Any, 0, 4_096), Refused),
+        row!("lifetime", Whole(1, 86_400), Number(60)),
+        row!("claims", Texts(FreeClaim, 0, 64), Listed(&["sub", "scope"])),
+    ]
 }
 
 #[tactic(auto, unfolding(crate::specs::Service::onward))]

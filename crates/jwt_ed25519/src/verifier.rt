@@ -8,14 +8,14 @@ ghost use Rattle.jwt_ed25519.specs.Room.{prepared_number, room};
 use crate::held::PreparedKeys;
 use crate::prepared::prepare;
 use crate::verifying::{verifies, verifies_by};
-use jwt_mac::{Alg, Answer, EdCurve, KeyView, Message, Verifier};
+use jwt_mac::{Alg, Answer, EdCurve, KeyView, Kind, Message, Verifier};
 use std::alloc::Global;
 
 /// Whether it is EdDSA.
 fn is_eddsa(alg: Alg) -> bool
     ensures { result ≡ names_eddsa alg }
 {
-    matches!(alg, Alg::EdDSA)
+    matches!(alg.kind(), Kind::EdDsa)
 }
 
 /// Whether a signature is accepted.
@@ -27,8 +27,8 @@ fn is_accepted(alg: Alg, key: &KeyView, message: Message, signature: &[u8]) -> b
     let KeyView::Okp { curve, x } = key else {
         return false;
     };
-    match (alg, *curve) {
-        (Alg::EdDSA, EdCurve::Ed25519) => verifies(x, message.parts(), signature),
+    match (alg.kind(), *curve) {
+        (Kind::EdDsa, EdCurve::Ed25519) => verifies(x, message.parts(), signature),
         _ => false,
     }
 }
@@ -120,8 +120,8 @@ impl PreparedEd25519 {
         let KeyView::Okp { curve, x } = key else {
             return false;
         };
-        match (alg, *curve) {
-            (Alg::EdDSA, EdCurve::Ed25519) => {
+        match (alg.kind(), *curve) {
+            (Kind::EdDsa, EdCurve::Ed25519) => {
                 verifies_by(&self.keys, x, message.parts(), signature)
             }
             _ => false,

@@ -5,9 +5,11 @@ use Rattle.std.specs.Int.{w32, w64, byte_at, bytes_high_first, byte_len}
 use Rattle.sha2.specs.Sha256 as short
 use Rattle.sha2.specs.Sha512 as long
 use Rattle.jwt_mac.specs.Hmac.{hmac_of}
-use Rattle.jwt_mac.specs.Algorithm.{tag_of}
+use Rattle.jwt_mac.specs.Algorithm.{kind_of, block_by, hmac_hash, sha256_of, sha384_of, sha512_of, tag_of}
 use Rattle.jwt_mac.specs.declared.algorithm.Alg.{Alg}
-use Rattle.jwt_mac.specs.declared.algorithm.Alg.TheVariants.{HS256, HS384, HS512}
+use Rattle.jwt_mac.specs.declared.algorithm.Hash.TheVariants.{Sha256, Sha384, Sha512}
+use Rattle.jwt_mac.specs.declared.algorithm.Kind.{Kind}
+use Rattle.jwt_mac.specs.declared.algorithm.Kind.TheVariants.{Hmac}
 
 abbrev AreBelow256 : List ℕ → Type 0
 AreBelow256 xs = (i : ℕ) → slice_index xs i < 256
@@ -59,8 +61,11 @@ unfolding long.sha512
 sha512_are m = long_are _ 8
 
 pub tag_is_octets : (alg : Alg) (key message : List ℕ) → AreBelow256 (tag_of alg key message)
-unfolding tag_of hmac_of
-tag_is_octets HS256 key message = sha256_are _
-tag_is_octets HS384 key message = sha384_are _
-tag_is_octets HS512 key message = sha512_are _
-tag_is_octets _ key message = none_are
+unfolding tag_of hmac_of sha256_of sha384_of sha512_of
+tag_is_octets alg key message = by (kind_of alg)
+  where
+    by : (kind : Kind) → AreBelow256 (hmac_of (hmac_hash kind) (block_by kind) key message)
+    by (Hmac Sha256) = sha256_are _
+    by (Hmac Sha384) = sha384_are _
+    by (Hmac Sha512) = sha512_are _
+    by _ = none_are

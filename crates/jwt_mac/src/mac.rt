@@ -4,7 +4,7 @@ ghost use Rattle.std.specs.Prelude.{◌≡◌, ◌≤◌, ◌<◌, ◌^◌, ◌+
 ghost use Rattle.jwt_mac.specs.Hmac.{block_key, masked, hmac_of, all_octets};
 ghost use Rattle.jwt_mac.specs.Algorithm.{is_hmac_alg, digest_size, tag_of, cost_of, sha256_of, sha384_of, sha512_of};
 
-use crate::algorithm::{Alg, cost};
+use crate::algorithm::{Alg, Hash, Kind, cost};
 use crate::budget::Budget;
 use crate::hash::HashFunction;
 use crate::tag::Tag;
@@ -92,16 +92,16 @@ fn mac_with<H: HashFunction>(block: usize, key: &[u8], parts: [&[u8]; 3]) -> Tag
 }
 
 /// The tag of the parts' message, whatever it costs.
-#[tactic(auto, unfolding(crate::specs::Algorithm::tag_of))]
+#[tactic(auto, unfolding(crate::specs::Algorithm::tag_of, crate::specs::Algorithm::sha256_of, crate::specs::Algorithm::sha384_of, crate::specs::Algorithm::sha512_of,))]
 fn tag_with(alg: Alg, key: &[u8], parts: [&[u8]; 3]) -> Tag
     requires { IsTrue (is_hmac_alg alg) }
     ensures tag { result ≡ tag_of alg key.now (all_octets parts.entry) }
     ensures size { length result ≡ digest_size alg }
 {
-    match alg {
-        Alg::HS256 => mac_with::<Sha256>(64, key, parts),
-        Alg::HS384 => mac_with::<Sha384>(128, key, parts),
-        // HS512, by the condition.
+    match alg.kind() {
+        Kind::Hmac(Hash::Sha256) => mac_with::<Sha256>(64, key, parts),
+        Kind::Hmac(Hash::Sha384) => mac_with::<Sha384>(128, key, parts),
+        // SHA-512, by the condition.
         _ => mac_with::<Sha512>(128, key, parts),
     }
 }

@@ -3,6 +3,13 @@
 //! [`policy_reason`], [`keys_reason`], [`access_reason`] and [`token_reason`] give the [`Reason`] why a document is refused, by the fault that
 //! was found in it; where its text can't be JSON, or a name stands twice, it has the [`Position`]. No octet of a
 //! key set is in one, and of a token only the recipients that [`claims_detail`] names. What they say is tested alone.
+// A row of a table: between braces it is laid out as it stands.
+macro_rules! row {
+    ($name:literal, $text:literal) => {
+        ($name, $text)
+    };
+}
+
 mod advice;
 mod answers;
 mod cause;

@@ -19,6 +19,7 @@ use Rattle.jwt_policy.specs.Bars.{alg, can_verify, bar_rows, bar_of}
 use Rattle.jwt_policy.specs.Eligible.{suits, is_for, answers_to, fits, eligible_for}
 use Rattle.jwt_policy.specs.Laws.{IsEligible}
 use Rattle.jwt_policy.specs.declared.sig_fault.SigFault.TheVariants.{NoVerifier}
+use Rattle.jwt_policy.proofs.BarNames.{row_fails}
 
 -- ---- options
 
@@ -87,7 +88,7 @@ fitting p s key verifiers fails fit =
     let permits = and_parts (is_for_signatures key.key_use) (allows (codes "verify") key.key_ops) rest.1 in
     let at = some_at (is_for key) (alg s) rest.0 in
     let for_key = and_parts (suits at.0 key.octets) (option_map_or (bytes_eq (name_of at.0)) key.alg true) at.2 in
-    let can = some_at (can_verify verifiers) (alg s) (not_false (some_passes (can_verify verifiers) (alg s)) (fails 4 (not (some_passes (can_verify verifiers) (alg s)) ⇒ NoVerifier) refl)) in
+    let can = some_at (can_verify verifiers) (alg s) (not_false (some_passes (can_verify verifiers) (alg s)) (row_fails (codes "NoVerifier") (bar_rows p s verifiers) (not (some_passes (can_verify verifiers) (alg s)) ⇒ NoVerifier) fails refl)) in
     let same : can.0 ≡ at.0 = some_same can.0 at.0 (sym can.1 ∙ at.1) in
     record {
       unbarred = fails;

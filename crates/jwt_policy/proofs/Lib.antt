@@ -14,6 +14,8 @@ pub mod MediaLemmas
 pub mod AllSome
 -- ---- For policy.rt
 pub mod CeilingLemmas
+-- ---- For crates above too
+pub mod BarNames
 -- ---- For several files
 pub mod ItemsLemmas
 -- ---- For other lemmas

@@ -3,9 +3,10 @@ use Rattle.std.specs.Prelude.{List, Bool, true, false, ◌&&◌, codes, nat_le, 
 use Rattle.std.specs.Option.{option_map_or}
 use Rattle.std.specs.Str.{bytes_eq}
 use Rattle.jwt_mac.specs.declared.algorithm.Alg.{Alg}
-use Rattle.jwt_mac.specs.declared.algorithm.Alg.TheVariants.{HS256, HS384, HS512, RS256, RS384, RS512, PS256, PS384, PS512, ES256, ES384, ES512, EdDSA}
+use Rattle.jwt_mac.specs.declared.algorithm.Kind.{Kind}
+use Rattle.jwt_mac.specs.declared.algorithm.Kind.TheVariants.{Hmac, Pkcs1, Pss, Ecdsa, EdDsa}
 use Rattle.jwt_mac.specs.declared.key_view.EcCurve.TheVariants.{P256, P384, P521}
-use Rattle.jwt_mac.specs.Algorithm.{name_of}
+use Rattle.jwt_mac.specs.Algorithm.{name_of, kind_of, octets_of}
 use Rattle.jwt_mac.specs.Verifying.{KeyOctets, OctKey, RsaKey, EcKey, OkpKey, Meaning}
 use Rattle.jwt_jws.specs.Token.{SignatureParts, kid}
 use Rattle.jwt_keys.specs.Keys.{KeyParts, permits_of, has_name}
@@ -15,23 +16,20 @@ use Rattle.jwt_policy.specs.Bars.{alg, bar_of}
 
 -- ---- the kind, curve and size of a key (RFC 7518, sections 3.2 to 3.5; RFC 8037, section 3.1; RFC 8725, section 3.5)
 
--- The key is of the kind, curve and size that the algorithm asks for: a shared secret of at least so many octets, an RSA key, a
--- point on that curve, a key of EdDSA.
+-- the key is of the kind, curve and size that a kind of algorithms asks for: a shared secret of at least as many octets as a digest has, an RSA
+-- key, a point on that curve, a key of EdDSA
+abbrev pub suits_kind : Kind → KeyOctets → Bool
+suits_kind (Hmac hash) (OctKey k) = nat_le (octets_of hash) (length k)
+suits_kind (Pkcs1 hash) (RsaKey n e) = true
+suits_kind (Pss hash) (RsaKey n e) = true
+suits_kind (Ecdsa P256) (EcKey P256 x y) = true
+suits_kind (Ecdsa P384) (EcKey P384 x y) = true
+suits_kind (Ecdsa P521) (EcKey P521 x y) = true
+suits_kind EdDsa (OkpKey curve x) = true
+suits_kind _ _ = false
+
 abbrev pub suits : Alg → KeyOctets → Bool
-suits HS256 (OctKey k) = nat_le 32 (length k)
-suits HS384 (OctKey k) = nat_le 48 (length k)
-suits HS512 (OctKey k) = nat_le 64 (length k)
-suits RS256 (RsaKey n e) = true
-suits RS384 (RsaKey n e) = true
-suits RS512 (RsaKey n e) = true
-suits PS256 (RsaKey n e) = true
-suits PS384 (RsaKey n e) = true
-suits PS512 (RsaKey n e) = true
-suits ES256 (EcKey P256 x y) = true
-suits ES384 (EcKey P384 x y) = true
-suits ES512 (EcKey P521 x y) = true
-suits EdDSA (OkpKey curve x) = true
-suits _ _ = false
+suits alg key = suits_kind (kind_of alg) key
 
 -- ---- the pair
 

@@ -11,34 +11,19 @@ use crate::bars::alg_or_bar;
 use crate::policy::Policy;
 use jwt_jws::Signature;
 use jwt_keys::Key;
-use jwt_mac::{Alg, EcCurve, KeyView, Verifier};
+use jwt_mac::{Alg, KeyView, Kind, Verifier};
 
 /// Whether the key is of the kind, curve and size that the algorithm asks for (RFC 7518, sections 3.2 to 3.5; RFC 8037,
 /// section 3.1). The least size of an RSA key is the verifier's to ask for.
 fn suits(alg: Alg, key: KeyView<'_>) -> bool
     ensures { result ≡ suits alg (key_octets key.entry) }
 {
-    match key {
-        KeyView::Oct { k } => match alg {
-            Alg::HS256 => k.len() >= 32,
-            Alg::HS384 => k.len() >= 48,
-            Alg::HS512 => k.len() >= 64,
-            _ => false,
-        },
-        KeyView::Rsa { n: _, e: _ } => match alg {
-            Alg::RS256 | Alg::RS384 | Alg::RS512 | Alg::PS256 | Alg::PS384 | Alg::PS512 => true,
-            _ => false,
-        },
-        KeyView::Ec { curve, x: _, y: _ } => match (alg, curve) {
-            (Alg::ES256, EcCurve::P256)
-            | (Alg::ES384, EcCurve::P384)
-            | (Alg::ES512, EcCurve::P521) => true,
-            _ => false,
-        },
-        KeyView::Okp { curve: _, x: _ } => match alg {
-            Alg::EdDSA => true,
-            _ => false,
-        },
+    match (alg.kind(), key) {
+        (Kind::Hmac(hash), KeyView::Oct { k }) => k.len() >= hash.octets(),
+        (Kind::Pkcs1(_) | Kind::Pss(_), KeyView::Rsa { .. }) => true,
+        (Kind::Ecdsa(asked), KeyView::Ec { curve, .. }) => asked == curve,
+        (Kind::EdDsa, KeyView::Okp { .. }) => true,
+        _ => false,
     }
 }
 

@@ -9,10 +9,11 @@ use Rattle.jwt_text.specs.Members.{has, text_at, object_at}
 use Rattle.jwt_text.specs.Rows.{Row, first_row, IsFirstRow, NoRow}
 use Rattle.jwt_text.proofs.RowsLemmas.{first_row_is, no_row_is}
 use Rattle.jwt_mac.specs.declared.algorithm.Alg.{Alg}
-use Rattle.jwt_mac.specs.declared.algorithm.Alg.TheVariants.{HS256, HS384, HS512}
+use Rattle.jwt_mac.specs.declared.algorithm.Kind.{Kind}
+use Rattle.jwt_mac.specs.declared.algorithm.Kind.TheVariants.{Hmac}
 use Rattle.jwt_mac.specs.declared.key_view.EcCurve.{EcCurve}
 use Rattle.jwt_mac.specs.declared.key_view.EdCurve.{EdCurve}
-use Rattle.jwt_mac.specs.Algorithm.{is_hmac_alg}
+use Rattle.jwt_mac.specs.Algorithm.{is_hmac_alg, kind_of, is_hmac}
 use Rattle.jwt_mac.specs.Verifying.{Meaning, KeyOctets, OctKey, RsaKey, EcKey, OkpKey, first_naming}
 use Rattle.jwt_jws.specs.Token.{Token, SignatureParts, message_of}
 use Rattle.jwt_keys.specs.declared.skip.SkipReason.{SkipReason}
@@ -28,7 +29,7 @@ use Rattle.jwt_policy.specs.declared.claim_fault.ClaimFault.{ClaimFault}
 use Rattle.jwt_policy.specs.Bars.{bar_rows}
 use Rattle.jwt_policy.specs.Checks.{check_rows}
 use Rattle.jwt_policy.specs.ClaimKinds.{kind_rows}
-use Rattle.jwt_policy.specs.Eligible.{suits}
+use Rattle.jwt_policy.specs.Eligible.{suits, suits_kind}
 use Rattle.jwt_policy.specs.Laws.{IsEligible}
 use Rattle.jwt_policy.specs.Settings.{Settings}
 use Rattle.jwt_policy.proofs.RowsLemmas.{first_of_both}
@@ -150,19 +151,14 @@ own_public signature key is = by (object_at (codes "jwk") signature.protected) i
 
 -- no public key suits an algorithm by a shared secret
 asymmetric : (a : Alg) (key : KeyOctets) → ((secret : List ℕ) → key ≢ OctKey secret) → suits a key ≡ true → is_hmac_alg a ≡ false
-asymmetric HS256 (OctKey secret) public e = absurd (public secret refl)
-asymmetric HS384 (OctKey secret) public e = absurd (public secret refl)
-asymmetric HS512 (OctKey secret) public e = absurd (public secret refl)
-asymmetric HS256 (RsaKey n m) public e = absurd cc
-asymmetric HS384 (RsaKey n m) public e = absurd cc
-asymmetric HS512 (RsaKey n m) public e = absurd cc
-asymmetric HS256 (EcKey curve x y) public e = absurd cc
-asymmetric HS384 (EcKey curve x y) public e = absurd cc
-asymmetric HS512 (EcKey curve x y) public e = absurd cc
-asymmetric HS256 (OkpKey curve x) public e = absurd cc
-asymmetric HS384 (OkpKey curve x) public e = absurd cc
-asymmetric HS512 (OkpKey curve x) public e = absurd cc
-asymmetric _ _ public e = refl
+asymmetric a key public e = by (kind_of a) key public e
+  where
+    by : (kind : Kind) (key : KeyOctets) → ((secret : List ℕ) → key ≢ OctKey secret) → suits_kind kind key ≡ true → is_hmac kind ≡ false
+    by (Hmac hash) (OctKey secret) public e = absurd (public secret refl)
+    by (Hmac hash) (RsaKey n m) public e = absurd cc
+    by (Hmac hash) (EcKey curve x y) public e = absurd cc
+    by (Hmac hash) (OkpKey curve x) public e = absurd cc
+    by _ _ public e = refl
 
 -- ---- rows of two tables
 

@@ -10,8 +10,8 @@ use Rattle.std.proofs.lemmas.Bool.{cases_lt}
 use Rattle.std.proofs.lemmas.Nat.{div-add-mod', mod_below}
 use borrow.Rule.Slice.PartMut.{put_mid}
 use Rattle.jwt_rsa.specs.powers.Octets.{i2osp}
-use Rattle.jwt_rsa.specs.declared.hash.Hash.{Hash}
-use Rattle.jwt_rsa.specs.Hashing.{digest_of, digest_size}
+use Rattle.jwt_mac.specs.declared.algorithm.Hash.{Hash}
+use Rattle.jwt_mac.specs.Algorithm.{hashed, octets_of}
 use Rattle.jwt_rsa.specs.Pss.{mgf1, mgf1_blocks, xored}
 
 pub take_split : (xs : List ℕ) (n m : ℕ) → take (n + m) xs ≡ take n xs ++ take m (drop n xs)
@@ -77,12 +77,12 @@ block_more now xs piece blocks digest start end order within long so_far is_piec
     ∙ ap (λ f. f ++ drop end xs) (sym (xored_append (take start xs) blocks (take (end - start) (drop start xs)) digest (size ∙ sym long)) ∙ ap (λ f. xored f (blocks ++ digest)) (sym both))
 
 pub blocks_all : (hash : Hash) (now xs seed : List ℕ) (start count : ℕ) → length xs ≤ start →
-    now ≡ xored (take start xs) (mgf1_blocks hash seed count) ++ drop start xs → count ≡ div_ceil (length xs) (digest_size hash) →
+    now ≡ xored (take start xs) (mgf1_blocks hash seed count) ++ drop start xs → count ≡ div_ceil (length xs) (octets_of hash) →
     now ≡ xored xs (mgf1 hash seed (length xs))
 blocks_all hash now xs seed start count end so_far all =
     so_far ∙ ap₂ (λ f r. xored f (mgf1_blocks hash seed count) ++ r) (take_all start xs end) (drop_all start xs end)
     ∙ append-nil _ ∙ ap (λ k. xored xs (mgf1_blocks hash seed k)) all
-    ∙ sym (xored_take xs (mgf1_blocks hash seed (div_ceil (length xs) (digest_size hash))) (length xs) (omega arith))
+    ∙ sym (xored_take xs (mgf1_blocks hash seed (div_ceil (length xs) (octets_of hash))) (length xs) (omega arith))
 
 -- the counter's octets
 pub counter_octets : (c : ℕ) → c < 256 → i2osp c 4 ≡ 0 ∷ 0 ∷ 0 ∷ c ∷ []
@@ -111,8 +111,8 @@ ceil_above n k c some above =
     (λ h. let more : (n / k + 1) * k ≤ c * k = mul-le-mul_right k (omega arith) in omega arith)
     (cases_lt (n % k) 1)
 
-pub next_blocks : (hash : Hash) (seed digest : List ℕ) (c : ℕ) → c < 256 → digest ≡ digest_of hash (seed ++ 0 ∷ 0 ∷ 0 ∷ c ∷ []) →
+pub next_blocks : (hash : Hash) (seed digest : List ℕ) (c : ℕ) → c < 256 → digest ≡ hashed hash (seed ++ 0 ∷ 0 ∷ 0 ∷ c ∷ []) →
     mgf1_blocks hash seed c ++ digest ≡ mgf1_blocks hash seed (c + 1)
 next_blocks hash seed digest c small is =
-    ap (λ d. mgf1_blocks hash seed c ++ d) (is ∙ ap (λ z. digest_of hash (seed ++ z)) (sym (counter_octets c small)))
+    ap (λ d. mgf1_blocks hash seed c ++ d) (is ∙ ap (λ z. hashed hash (seed ++ z)) (sym (counter_octets c small)))
     ∙ ap (mgf1_blocks hash seed) (sym (add-one c))

@@ -8,8 +8,8 @@ use Rattle.std.specs.Str.{bytes_eq}
 use Rattle.std.proofs.lemmas.Bool.{false_from_ne_true, cases_lt}
 use Rattle.std.proofs.lemmas.Slice.Eq.{bytes_eq-Decides}
 use Rattle.std.proofs.lemmas.List.{length-take-le, length-append, append-nil, take_rest}
-use Rattle.jwt_rsa.specs.declared.hash.Hash.{Hash}
-use Rattle.jwt_rsa.specs.Hashing.{digest_size}
+use Rattle.jwt_mac.specs.declared.algorithm.Hash.{Hash}
+use Rattle.jwt_mac.specs.Algorithm.{octets_of}
 use Rattle.jwt_rsa.specs.Pss.{mgf1, xored, without_top, db_size, h_of, db_of}
 
 pub and_three : (a b c d : Bool) → a ≡ true → b ≡ true → c ≡ true → (a && b && c && d) ≡ d
@@ -22,16 +22,16 @@ pub bytes_same : (xs ys : List ℕ) → xs ≡ ys → bytes_eq xs ys ≡ true
 bytes_same xs ys same = (bytes_eq-Decides xs ys).1 same
 
 -- H as it is read
-pub h_is : (hash : Hash) (em : List ℕ) (size db_len : ℕ) → size ≡ digest_size hash → db_len + digest_size hash + 1 ≡ length em →
+pub h_is : (hash : Hash) (em : List ℕ) (size db_len : ℕ) → size ≡ octets_of hash → db_len + octets_of hash + 1 ≡ length em →
     take (db_len + size - db_len) (drop db_len em) ≡ h_of hash em
 h_is hash em size db_len is_size room =
-    let width : db_len + size - db_len ≡ digest_size hash = omega arith in
+    let width : db_len + size - db_len ≡ octets_of hash = omega arith in
     let place : db_len ≡ db_size hash em = omega arith in
     ap₂ (λ n k. take n (drop k em)) width place
 
 -- DB as it is made
-pub db_is : (hash : Hash) (em masked unmasked db : List ℕ) (unused size db_len : ℕ) → size ≡ digest_size hash →
-    db_len + digest_size hash + 1 ≡ length em → masked ≡ take db_len em →
+pub db_is : (hash : Hash) (em masked unmasked db : List ℕ) (unused size db_len : ℕ) → size ≡ octets_of hash →
+    db_len + octets_of hash + 1 ≡ length em → masked ≡ take db_len em →
     unmasked ≡ xored masked (mgf1 hash (take (db_len + size - db_len) (drop db_len em)) (length masked)) →
     db ≡ without_top unused unmasked → db ≡ db_of hash em unused
 unfolding db_of
@@ -46,13 +46,13 @@ db_is hash em masked unmasked db unused size db_len is_size room is_masked is_un
 
 -- the padding and the salt of DB
 pub padding_is : (hash : Hash) (em db : List ℕ) (unused salt : ℕ) → db ≡ db_of hash em unused → length db ≡ db_size hash em → 0 < salt →
-    salt ≡ db_size hash em - digest_size hash - 1 + 1 → salt ≤ length db →
+    salt ≡ db_size hash em - octets_of hash - 1 + 1 → salt ≤ length db →
     (take salt db ≡ replicate (length (take salt db) - 1) 0 ++ 1 ∷ [])
-    ↔ (take (db_size hash em - digest_size hash - 1 + 1) (db_of hash em unused) ≡ replicate (db_size hash em - digest_size hash - 1) 0 ++ 1 ∷ [])
+    ↔ (take (db_size hash em - octets_of hash - 1 + 1) (db_of hash em unused) ≡ replicate (db_size hash em - octets_of hash - 1) 0 ++ 1 ∷ [])
 padding_is hash em db unused salt is_db long some is_salt within =
-    let front : take salt db ≡ take (db_size hash em - digest_size hash - 1 + 1) (db_of hash em unused) = ap₂ take is_salt is_db in
-    let pad : length (take salt db) - 1 ≡ db_size hash em - digest_size hash - 1 = omega (arith, length-take-le salt db within) in
-    let same : replicate (length (take salt db) - 1) 0 ++ 1 ∷ [] ≡ replicate (db_size hash em - digest_size hash - 1) 0 ++ 1 ∷ [] =
+    let front : take salt db ≡ take (db_size hash em - octets_of hash - 1 + 1) (db_of hash em unused) = ap₂ take is_salt is_db in
+    let pad : length (take salt db) - 1 ≡ db_size hash em - octets_of hash - 1 = omega (arith, length-take-le salt db within) in
+    let same : replicate (length (take salt db) - 1) 0 ++ 1 ∷ [] ≡ replicate (db_size hash em - octets_of hash - 1) 0 ++ 1 ∷ [] =
     ap (λ n. replicate n 0 ++ 1 ∷ []) pad in
     ((λ e. sym front ∙ e ∙ same), (λ e. front ∙ e ∙ sym same))
 

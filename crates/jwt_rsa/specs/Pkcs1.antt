@@ -3,8 +3,9 @@ use Rattle.std.specs.Prelude.{ℕ, ◌+◌, ◌-◌, Bool, ◌&&◌, List, ◌�
 use Rattle.std.specs.Str.{bytes_eq}
 use Rattle.jwt_rsa.specs.powers.Octets.{os2ip, i2osp, without_zeros}
 use Rattle.jwt_rsa.specs.PublicKey.{is_asked, rsavp1}
-use Rattle.jwt_rsa.specs.declared.hash.Hash.{Hash}
-use Rattle.jwt_rsa.specs.Hashing.{digest_of, digest_info}
+use Rattle.jwt_mac.specs.declared.algorithm.Hash.{Hash}
+use Rattle.jwt_mac.specs.Algorithm.{hashed}
+use Rattle.jwt_rsa.specs.Hashing.{digest_info}
 
 -- 0x00 || 0x01 || PS || 0x00 || T, where T is the DER encoding of DigestInfo (section 9.2, step 5)
 abbrev pub framed : List ℕ → List ℕ → List ℕ → List ℕ
@@ -19,4 +20,4 @@ unfoldable pub pkcs1_accepts : Hash → List ℕ → List ℕ → List ℕ → L
 pkcs1_accepts hash n e message signature =
     let k = length (without_zeros n) in
     let em = i2osp (rsavp1 (os2ip n) (os2ip e) (os2ip signature)) k in
-    is_asked n e signature && bytes_eq em (encoded_message (digest_info hash) (digest_of hash message) k)
+    is_asked n e signature && bytes_eq em (encoded_message (digest_info hash) (hashed hash message) k)

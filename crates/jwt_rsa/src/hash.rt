@@ -1,21 +1,12 @@
 //! The hash functions of RSA signatures.
 
-ghost use Rattle.std.specs.Prelude.{◌≡◌, ◌≤◌, length};
+ghost use Rattle.std.specs.Prelude.{◌≡◌, length};
 ghost use Rattle.jwt_mac.specs.Hmac.{all_octets};
+ghost use Rattle.jwt_mac.specs.Algorithm.{hashed, octets_of};
+ghost use Rattle.jwt_rsa.specs.Hashing.{digest_info};
 
 use crate::digest::HashDigest;
-use jwt_mac::{sha256, sha384, sha512};
-
-/// A hash function of SHA-2 (FIPS 180-4).
-#[derive(Clone, Copy, Debug, PartialEq, Eq)]
-pub enum Hash {
-    /// SHA-256.
-    Sha256,
-    /// SHA-384.
-    Sha384,
-    /// SHA-512.
-    Sha512,
-}
+use jwt_mac::{Hash, sha256, sha384, sha512};
 
 // The DER encoding of DigestInfo up to the digest (RFC 8017, section 9.2, note 1), for each.
 const INFO_256: [u8; 19] = [
@@ -33,42 +24,25 @@ const INFO_512: [u8; 19] = [
     0x00, 0x04, 0x40,
 ];
 
-impl Hash {
-    ghost use Rattle.jwt_rsa.specs.Hashing.{digest_of, digest_size, digest_info};
-
-    /// The digest of the octets that the parts make, joined.
-    #[tactic(auto, unfolding(crate::specs::Hashing::digest_of))]
-    pub fn digest(self, parts: [&[u8]; 3]) -> HashDigest
-        ensures is { result ≡ digest_of self (all_octets parts.entry) }
-        ensures size { length result ≡ digest_size self }
-    {
-        match self {
-            Hash::Sha256 => HashDigest::of(&sha256(parts)),
-            Hash::Sha384 => HashDigest::of(&sha384(parts)),
-            Hash::Sha512 => HashDigest::of(&sha512(parts)),
-        }
+/// The digest of the octets that the parts make, joined.
+pub fn digest(hash: Hash, parts: [&[u8]; 3]) -> HashDigest
+    ensures is { result ≡ hashed hash (all_octets parts.entry) }
+    ensures size { length result ≡ octets_of hash }
+{
+    match hash {
+        Hash::Sha256 => HashDigest::of(&sha256(parts)),
+        Hash::Sha384 => HashDigest::of(&sha384(parts)),
+        Hash::Sha512 => HashDigest::of(&sha512(parts)),
     }
+}
 
-    /// The octets in a digest.
-    pub fn size(self) -> usize
-        ensures is { result ≡ digest_size self }
-        ensures range { (32 ≤ result) × (result ≤ 64) }
-    {
-        match self {
-            Hash::Sha256 => 32,
-            Hash::Sha384 => 48,
-            Hash::Sha512 => 64,
-        }
-    }
-
-    /// The DER encoding of DigestInfo up to the digest.
-    pub fn info(self) -> &'static [u8]
-        ensures { result.now ≡ digest_info self }
-    {
-        match self {
-            Hash::Sha256 => &INFO_256,
-            Hash::Sha384 => &INFO_384,
-            Hash::Sha512 => &INFO_512,
-        }
+/// The DER encoding of DigestInfo up to the digest.
+pub fn info(hash: Hash) -> &'static [u8]
+    ensures { result.now ≡ digest_info hash }
+{
+    match hash {
+        Hash::Sha256 => &INFO_256,
+        Hash::Sha384 => &INFO_384,
+        Hash::Sha512 => &INFO_512,
     }
 }

@@ -4,9 +4,10 @@ ghost use Rattle.std.specs.Prelude.{◌≡◌, ◌≢◌, ◌+◌, ◌↔◌, �
 ghost use Rattle.jwt_mac.specs.Hmac.{all_octets};
 ghost use Rattle.jwt_rsa.specs.Pkcs1.{framed, encoded_message, pkcs1_accepts};
 
-use crate::hash::Hash;
+use crate::hash::{digest, info};
 use crate::powers::MOST_OCTETS;
 use crate::public_key::{KeyOctets, PublicKey};
+use jwt_mac::Hash;
 
 /// What stands before an end, if octets end so.
 pub fn before<'a>(octets: &'a [u8], end: &[u8]) -> Option<&'a [u8]>
@@ -64,5 +65,5 @@ pub fn accepts(hash: Hash, key: KeyOctets, parts: [&[u8]; 3], signature: &[u8]) 
     if !key.recover(em, signature) {
         return false;
     }
-    is_encoded(em, hash.info(), hash.digest(parts).octets())
+    is_encoded(em, info(hash), digest(hash, parts).octets())
 }

@@ -2,14 +2,15 @@
 
 ghost use Rattle.std.specs.Prelude.{◌≡◌, ℕ, ◌+◌, ◌-◌, ◌*◌, ◌^◌, ◌<◌, ◌≤◌, ◌++◌, ◌∷◌, [], length, replicate, ◌↔◌, IsTrue};
 ghost use Rattle.jwt_mac.specs.Hmac.{all_octets};
-ghost use Rattle.jwt_rsa.specs.Hashing.{digest_size};
+ghost use Rattle.jwt_mac.specs.Algorithm.{octets_of};
 ghost use Rattle.jwt_rsa.specs.Pss.{mgf1, xored, without_top, pss_verified, pss_represents, pss_accepts};
 ghost use Rattle.jwt_rsa.specs.powers.Octets.{i2osp};
 
-use crate::hash::Hash;
+use crate::hash::digest;
 use crate::pkcs1::before;
 use crate::powers::{MOST_OCTETS, Modulus};
 use crate::public_key::{KeyOctets, PublicKey};
+use jwt_mac::Hash;
 
 /// Xors octets with a digest's first.
 fn xor_with(octets: &mut [u8], mask: &[u8])
@@ -26,11 +27,11 @@ fn unmask(hash: Hash, seed: &[u8], octets: &mut [u8])
     requires { length octets.old ≤ 1024 }
     ensures { octets.new ≡ xored octets.old (mgf1 hash seed.now (length octets.old)) }
 {
-    let size = hash.size();
+    let size = hash.octets();
     let mut start = 0;
     'counters: for counter in 0..octets.len().div_ceil(size) {
         let end = octets.len().min(start + size);
-        let digest = hash.digest([seed, &[0, 0, 0, counter as u8], &[]]);
+        let digest = digest(hash, [seed, &[0, 0, 0, counter as u8], &[]]);
         xor_with(&mut octets[start..end], digest.octets());
         start = end;
     }
@@ -58,13 +59,13 @@ fn clear_top(octets: &mut [u8], unused: usize)
 /// EMSA-PSS-VERIFY, with room for DB.
 #[tactic(auto, unfolding(crate::specs::Pss::pss_verified))]
 fn is_verified(hash: Hash, m_hash: &[u8], em: &[u8], unused: usize, db: &mut [u8]) -> bool
-    requires least { 2 * digest_size hash + 2 ≤ length em.now }
+    requires least { 2 * octets_of hash + 2 ≤ length em.now }
     requires most { length em.now ≤ 1024 }
     requires bits { unused < 8 }
-    requires room { length db.old + digest_size hash + 1 ≡ length em.now }
+    requires room { length db.old + octets_of hash + 1 ≡ length em.now }
     ensures { result ≡ pss_verified hash m_hash.now em.now unused }
 {
-    let size = hash.size();
+    let size = hash.octets();
     let db_len = db.len();
     if em[em.len() - 1] != 0xbc || u32::from(em[0]) >= 1 << (8 - unused) {
         return false;
@@ -77,7 +78,7 @@ fn is_verified(hash: Hash, m_hash: &[u8], em: &[u8], unused: usize, db: &mut [u8
     if !is_padding(&db[..salt]) {
         return false;
     }
-    hash.digest([&[0; 8], m_hash, &db[salt..]]).octets() == h
+    digest(hash, [&[0; 8], m_hash, &db[salt..]]).octets() == h
 }
 
 /// What follows RSAVP1 (RFC 8017, section 8.1.2, steps 2c and 3), of a number in as many octets as the
@@ -93,7 +94,7 @@ fn represents(hash: Hash, n: &Modulus, m_hash: &[u8], em: &[u8]) -> bool
     let em_len = em_bits.div_ceil(8);
     let unused = 8 * em_len - em_bits;
     let mut room = [0u8; MOST_OCTETS];
-    let db_len = em_len - hash.size() - 1;
+    let db_len = em_len - hash.octets() - 1;
     if em_len == k {
         is_verified(hash, m_hash, em, unused, &mut room[..db_len])
     } else if em[0] != 0 {
@@ -116,5 +117,5 @@ pub fn accepts(hash: Hash, key: KeyOctets, parts: [&[u8]; 3], signature: &[u8]) 
     if !key.recover(em, signature) {
         return false;
     }
-    represents(hash, &key.n, hash.digest(parts).octets(), em)
+    represents(hash, &key.n, digest(hash, parts).octets(), em)
 }

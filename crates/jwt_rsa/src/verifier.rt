@@ -8,21 +8,21 @@ ghost use Rattle.jwt_rsa.specs.Held.{prepared_number, room};
 use crate::powers::{Modulus, PreparedModulus};
 use crate::public_key::KeyOctets;
 use crate::verifying;
-use jwt_mac::{Alg, Answer, KeyView, Message, Verifier};
+use jwt_mac::{Alg, Answer, KeyView, Kind, Message, Verifier};
 use std::alloc::Global;
 
 /// Whether it is RS256, RS384 or RS512.
 fn is_rs(alg: Alg) -> bool
     ensures { result ≡ names_rs alg }
 {
-    matches!(alg, Alg::RS256 | Alg::RS384 | Alg::RS512)
+    matches!(alg.kind(), Kind::Pkcs1(_))
 }
 
 /// Whether it is PS256, PS384 or PS512.
 fn is_ps(alg: Alg) -> bool
     ensures { result ≡ names_ps alg }
 {
-    matches!(alg, Alg::PS256 | Alg::PS384 | Alg::PS512)
+    matches!(alg.kind(), Kind::Pss(_))
 }
 
 /// Whether a signature by RS256, RS384 or RS512 is accepted.

@@ -5,10 +5,9 @@ ghost use Rattle.jwt_mac.specs.Hmac.{all_octets};
 ghost use Rattle.jwt_mac.specs.Verifying.{RsaKey};
 ghost use Rattle.jwt_rsa.specs.Meanings.{accepts_rs, accepts_ps};
 
-use crate::hash::Hash;
 use crate::public_key::KeyOctets;
 use crate::{pkcs1, pss};
-use jwt_mac::Alg;
+use jwt_mac::{Alg, Kind};
 
 /// Whether it is the signature of the joined parts by RS256, RS384 or RS512.
 pub fn is_accepted_rs(alg: Alg, key: KeyOctets, parts: [&[u8]; 3], signature: &[u8]) -> bool
@@ -16,10 +15,8 @@ pub fn is_accepted_rs(alg: Alg, key: KeyOctets, parts: [&[u8]; 3], signature: &[
         ≡ accepts_rs alg (RsaKey key.entry.n.now key.entry.e.now) (all_octets parts.entry)
         signature.now }
 {
-    match alg {
-        Alg::RS256 => pkcs1::accepts(Hash::Sha256, key, parts, signature),
-        Alg::RS384 => pkcs1::accepts(Hash::Sha384, key, parts, signature),
-        Alg::RS512 => pkcs1::accepts(Hash::Sha512, key, parts, signature),
+    match alg.kind() {
+        Kind::Pkcs1(hash) => pkcs1::accepts(hash, key, parts, signature),
         _ => false,
     }
 }
@@ -30,10 +27,8 @@ pub fn is_accepted_ps(alg: Alg, key: KeyOctets, parts: [&[u8]; 3], signature: &[
         ≡ accepts_ps alg (RsaKey key.entry.n.now key.entry.e.now) (all_octets parts.entry)
         signature.now }
 {
-    match alg {
-        Alg::PS256 => pss::accepts(Hash::Sha256, key, parts, signature),
-        Alg::PS384 => pss::accepts(Hash::Sha384, key, parts, signature),
-        Alg::PS512 => pss::accepts(Hash::Sha512, key, parts, signature),
+    match alg.kind() {
+        Kind::Pss(hash) => pss::accepts(hash, key, parts, signature),
         _ => false,
     }
 }

@@ -24,3 +24,4 @@ pub mod Tests
 -- ---- For other lemmas
 pub mod Below
 pub mod OneEntry
+pub mod Remembered

@@ -1,8 +1,10 @@
 -- The requests that are let through, and why others aren't.
-use Rattle.std.specs.Prelude.{◌≡◌, ◌≢◌, ℕ, List, Option, Some, None, Result, Ok, Err}
+use Rattle.std.specs.Prelude.{◌≡◌, ◌≢◌, ℕ, true, List, Option, Some, None, Result, Ok, Err}
 use Rattle.serde_json.specs.Data.{Members}
 use Rattle.jwt_mac.specs.Verifying.{Meaning}
 use Rattle.jwt_mac.specs.declared.algorithm.Alg.{Alg}
+use Rattle.jwt_jws.specs.Views.{token as token_view}
+use Rattle.jwt_verify.specs.Asks.{IsToken as IsReadToken}
 use Rattle.jwt_request.specs.declared.scheme.Scheme.{Scheme}
 use Rattle.jwt_possession.specs.declared.once.once.Taken.{Taken}
 use Rattle.jwt_possession.specs.declared.once.once.Taken.TheVariants.{New}
@@ -19,7 +21,8 @@ use Rattle.jwt_service.specs.declared.admission.Passed.{Passed}
 use Rattle.jwt_service.specs.declared.admission.Refusal.{Refusal}
 use Rattle.jwt_service.specs.declared.admission.Refusal.TheVariants.{Misasked, Several, Absent, Malformed, Refused, Denied, Unexpected, Unproved, Unshown, Lacking, OutOfMemory}
 use Rattle.jwt_service.specs.declared.books.Books.{Books}
-use Rattle.jwt_service.specs.declared.admitting.AcceptedToken.{AcceptedToken}
+use Rattle.jwt_service.specs.declared.accepting.AcceptedToken.{AcceptedToken}
+use Rattle.jwt_service.specs.declared.accepting.ShownToken.{ShownToken}
 use Rattle.jwt_service.specs.Asking.{IsAsked, IsMisasked}
 use Rattle.jwt_service.specs.Shown.{schemes_of, values_of, Shows, IsShown}
 use Rattle.jwt_service.specs.Issuers.{IsChosen}
@@ -142,6 +145,15 @@ IsAdmission service verifiers call old _ new = ⊥
 
 abbrev pub subject_of : AcceptedToken → Subject
 subject_of it = record { scheme = it.scheme; token = it.token.now; issuer = it.issuer; claims = it.claims; alg = it.alg }
+
+-- the token that the request shows, and the issuer that it is judged by, which reads it so
+abbrev pub IsShownToken : Service → Call → ShownToken → Type 0
+IsShownToken service call it = IsToken service call it.scheme it.token.now × IsChosen service it.token.now it.issuer
+    × IsReadToken it.issuer.policy.now it.token.now (token_view it.signed) × (it.own ≡ true → it.issuer ≡ service.issuer)
+
+abbrev pub IsShownAs : Service → List Meaning → Call → Result ShownToken Refusal → Type 0
+IsShownAs service verifiers call (Ok it) = IsShownToken service call it
+IsShownAs service verifiers call (Err refusal) = IsRefusal service verifiers call refusal
 
 abbrev pub IsAcceptedAs : Service → List Meaning → Call → Result AcceptedToken Refusal → Type 0
 IsAcceptedAs service verifiers call (Ok it) = IsAccepted service verifiers call (subject_of it)

@@ -5,12 +5,14 @@ use Rattle.jwt_mac.specs.Verifying.{Meaning}
 use Rattle.jwt_mac.specs.declared.algorithm.Alg.{Alg}
 use Rattle.jwt_jws.specs.Token.{Token}
 use Rattle.jwt_policy.specs.Bars.{alg as named_alg}
+use Rattle.jwt_policy.specs.ClaimKinds.{claims_of}
 use Rattle.jwt_policy.specs.Settings.{Settings}
 use Rattle.jwt_verify.specs.Accepted.{IsAccepted, IsFault}
 use Rattle.jwt_verify.specs.Asks.{IsToken}
 use Rattle.jwt_verify.specs.Reports.{FoundMemory, terms}
 use Rattle.jwt_verify.specs.declared.report.Fault.{Fault}
-use Rattle.jwt_verify.specs.declared.report.Verdict.TheVariants.{Refused}
+use Rattle.jwt_verify.specs.declared.report.Verdict.{Verdict}
+use Rattle.jwt_verify.specs.declared.report.Verdict.TheVariants.{Accepted, Refused}
 use Rattle.jwt_service.specs.declared.call.Call.{Call}
 use Rattle.jwt_service.specs.declared.judging.Verified.{Verified}
 use Rattle.jwt_service.specs.declared.service.Issuer.{Issuer}
@@ -39,3 +41,13 @@ RefusesToken issuer verifiers call token fault =
 abbrev pub IsJudgedAs : Issuer → List Meaning → Call → List ℕ → Result Verified Fault → Type 0
 IsJudgedAs issuer verifiers call token (Ok it) = AcceptsToken issuer verifiers call token it.claims it.alg
 IsJudgedAs issuer verifiers call token (Err fault) = RefusesToken issuer verifiers call token fault
+
+-- what is accepted of a token tells its algorithm and its claims
+abbrev pub TellsOf : Verdict → Token → Type 0
+TellsOf verdict token = (signature key : ℕ) (claims : Members) → verdict ≡ Accepted signature key claims
+    → ((alg : Alg) × (alg_at token signature ≡ Some alg)) × (claims_of token.payload ≡ Ok claims)
+
+-- the token is accepted, by a signature of this algorithm, and these are the claims of its payload
+abbrev pub IsVerifiedIn : Verdict → Token → Verified → Type 0
+IsVerifiedIn verdict token it = (signature : ℕ) × (key : ℕ) × (claims : Members) × (verdict ≡ Accepted signature key claims)
+    × (alg_at token signature ≡ Some it.alg) × (claims_of token.payload ≡ Ok it.claims)

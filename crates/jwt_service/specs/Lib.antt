@@ -24,6 +24,8 @@ pub mod Unshown
 pub mod Taking
 -- the requests that are let through, and why others aren't
 pub mod Admission
+-- a memory of accepted tokens beside a service
+pub mod Recalled
 -- what is answered of a request of which all else holds, by what a memory or a store answered
 pub mod Settled
 -- what is answered to a request, in the terms of `jwt_request`

@@ -1,94 +1,47 @@
 //! The one question.
 
-ghost use Rattle.std.specs.Prelude.{map};
-ghost use Rattle.jwt_service.specs.Asking.{IsAsked};
+ghost use Rattle.std.specs.Prelude.{List, map};
+ghost use Rattle.jwt_mac.specs.Verifying.{Meaning};
+ghost use Rattle.jwt_memory.specs.Entries.{HasRoomOf};
+ghost use Rattle.jwt_service.specs.Asking.{IsRuleOf};
 ghost use Rattle.jwt_service.specs.Admission.{IsAcceptedAs, IsDecided, IsAdmission};
+ghost use Rattle.jwt_service.specs.Recalled.{IsMemoryOf, IsRecalled};
 
+use crate::accepting::{AcceptedToken, RecalledToken, accepted, accepted_by_memory};
 use crate::admission::{Admission, Passed, Refusal};
 use crate::asking::asked;
 use crate::books::{Books, is_new, take};
 use crate::call::Call;
 use crate::entries::{proof_entry, token_entry};
 use crate::expecting::unmet;
-use crate::issuers::{ReadToken, chosen};
-use crate::judging::{Verified, judged};
 use crate::proving::held;
 use crate::rule::denial;
-use crate::service::{Issuer, Service};
-use crate::shown::{Shown, shown_to};
+use crate::service::{NamedRule, Service};
 use crate::unshown::unshown;
-use jwt_mac::{Alg, Verifier};
-use jwt_policy::Claims;
-use jwt_request::Scheme;
+use jwt_mac::Verifier;
+use jwt_memory::Memory;
 use std::alloc::Global;
 
-/// A token that was accepted: the scheme by which it was shown, its octets, the issuer by whose policy and keys it was, its claims, and the algorithm of the
-/// signature that verified.
-#[derive(Drop)]
-pub(crate) struct AcceptedToken<'s, 'a> {
-    pub(crate) scheme: Scheme,
-    pub(crate) token: &'a [u8],
-    pub(crate) issuer: Issuer<'s>,
-    pub(crate) claims: Claims,
-    pub(crate) alg: Alg,
-}
-
-/// The token that the request shows, accepted by the policy and the keys of one of the service's issuers.
-fn accepted<'s, 'a>(
+/// Whether all holds of a request whose token is accepted by this, but that its proof and its token are new.
+fn decided<'s>(
     alloc: Global,
     service: &Service<'s>,
     verifiers: &[Box<dyn Verifier>],
-    call: &Call<'a>,
-) -> Result<AcceptedToken<'s, 'a>, Refusal<'s>>
-    requires { IsAsked service.now call.now }
-    ensures { IsAcceptedAs service.now (map meaning verifiers.now) call.now result }
-{
-    let (scheme, token) = match shown_to(service, call) {
-        Shown::Several => return Err(Refusal::Several),
-        Shown::Absent => return Err(Refusal::Absent),
-        Shown::Malformed(scheme) => return Err(Refusal::Malformed(scheme)),
-        Shown::Token(scheme, token) => (scheme, token),
-    };
-    let ReadToken { issuer, read } = match chosen(alloc, service, token) {
-        Ok(chosen) => chosen,
-        Err(_) => return Err(Refusal::OutOfMemory),
-    };
-    let signed = match read {
-        Ok(signed) => signed,
-        Err(fault) => return Err(Refusal::Refused(scheme, fault)),
-    };
-    match judged(alloc, &issuer, verifiers, &signed, call) {
-        Ok(Verified { claims, alg }) => Ok(AcceptedToken {
-            scheme,
-            token,
-            issuer,
-            claims,
-            alg,
-        }),
-        Err(fault) => Err(Refusal::Refused(scheme, fault)),
-    }
-}
-
-/// Whether all holds of the request but that its proof and its token are new, and what is to be taken for that; else the first cause why not. Nothing is taken.
-pub fn decide<'s>(
-    alloc: Global,
-    service: &Service<'s>,
-    verifiers: &[Box<dyn Verifier>],
+    rule: Option<NamedRule<'s>>,
+    accepted: Result<AcceptedToken<'s, '_>, Refusal<'s>>,
     call: &Call<'_>,
 ) -> Result<Passed<'s>, Refusal<'s>>
+    requires rule { IsRuleOf service.now call.now rule }
+    requires accepted { IsAcceptedAs service.now (map meaning verifiers.now) call.now accepted }
     ensures { IsDecided service.now (map meaning verifiers.now) call.now result }
 {
-    let rule = match asked(service, call) {
-        Ok(rule) => rule,
-        Err(fault) => return Err(Refusal::Misasked(fault)),
-    };
     let AcceptedToken {
         scheme,
         token,
         issuer,
         claims,
         alg,
-    } = match accepted(alloc, service, verifiers, call) {
+    } = match accepted {
         Ok(accepted) => accepted,
         Err(refusal) => return Err(refusal),
     };
@@ -122,18 +75,79 @@ pub fn decide<'s>(
     })
 }
 
-/// Whether the request is let through, and by which claims; else the first cause why not. Where it is decided that it isn't, nothing is taken; its proof is
-/// taken behind that, and its token, where it counts once, last.
-pub fn admit<'s>(
+/// Whether all holds of the request but that its proof and its token are new, and what is to be taken for that; else the first cause why not. Nothing is taken.
+pub fn decide<'s>(
     alloc: Global,
     service: &Service<'s>,
     verifiers: &[Box<dyn Verifier>],
+    call: &Call<'_>,
+) -> Result<Passed<'s>, Refusal<'s>>
+    ensures { IsDecided service.now (map meaning verifiers.now) call.now result }
+{
+    let rule = match asked(service, call) {
+        Ok(rule) => rule,
+        Err(fault) => return Err(Refusal::Misasked(fault)),
+    };
+    let accepted = accepted(alloc, service, verifiers, call);
+    decided(alloc, service, verifiers, rule, accepted, call)
+}
+
+/// What [`decide_by_memory`] answers.
+#[derive(Drop)]
+#[must_use]
+pub struct RecalledDecision<'s> {
+    /// The answer of [`decide`].
+    pub decision: Result<Passed<'s>, Refusal<'s>>,
+    /// Whether the verdict on the token was remembered: no signature of it was verified.
+    pub remembered: bool,
+}
+
+/// The answer of [`decide`], with a memory of the tokens that the service's own issuer accepts. Of a token that it holds no signature is verified: its claims are held
+/// against the policy at the moment of the call, as those of any other. A token that is accepted is held from now on, where it may be and memory is there. Tokens of
+/// other issuers are judged anew each time.
+///
+/// The condition: the memory is of this service's own policy and keys, and of these verifiers, as one is that was new when it was first handed in with them. New keys begin
+/// a new memory.
+pub fn decide_by_memory<'s>(
+    alloc: Global,
+    service: &Service<'s>,
+    verifiers: &[Box<dyn Verifier>],
+    memory: &mut Memory,
+    call: &Call<'_>,
+) -> RecalledDecision<'s>
+    requires kept { IsMemoryOf service.now (map meaning verifiers.now) memory.old }
+    ensures decided { IsDecided service.now (map meaning verifiers.now) call.now result.decision }
+    ensures recalled { IsRecalled service.now call.now memory.old result.remembered }
+    ensures kept { IsMemoryOf service.now (map meaning verifiers.now) memory.new }
+    ensures room { HasRoomOf memory.new memory.old }
+{
+    let rule = match asked(service, call) {
+        Ok(rule) => rule,
+        Err(fault) => return RecalledDecision {
+            decision: Err(Refusal::Misasked(fault)),
+            remembered: false,
+        },
+    };
+    let RecalledToken {
+        accepted,
+        remembered,
+    } = accepted_by_memory(alloc, service, verifiers, memory, call);
+    RecalledDecision {
+        decision: decided(alloc, service, verifiers, rule, accepted, call),
+        remembered,
+    }
+}
+
+/// What is answered where this was decided of the request: its proof is taken, and its token, where it counts once, last.
+fn admission<'s>(
+    decision: Result<Passed<'s>, Refusal<'s>>,
     books: &mut Books,
     call: &Call<'_>,
 ) -> Admission<'s>
-    ensures { IsAdmission service.now (map meaning verifiers.now) call.now books.old result books.new }
+    ensures { (service : Service) (verifiers : List Meaning) → IsDecided service verifiers call.now decision.entry
+        → IsAdmission service verifiers call.now books.old result books.new }
 {
-    let passed = match decide(alloc, service, verifiers, call) {
+    let passed = match decision {
         Ok(passed) => passed,
         Err(refusal) => return Admission::Refused(refusal),
     };
@@ -146,4 +160,54 @@ pub fn admit<'s>(
         return Admission::TokenNotNew(passed.scheme, Some(token));
     }
     Admission::Admitted(passed.claims)
+}
+
+/// Whether the request is let through, and by which claims; else the first cause why not. Where it is decided that it isn't, nothing is taken; its proof is
+/// taken behind that, and its token, where it counts once, last.
+pub fn admit<'s>(
+    alloc: Global,
+    service: &Service<'s>,
+    verifiers: &[Box<dyn Verifier>],
+    books: &mut Books,
+    call: &Call<'_>,
+) -> Admission<'s>
+    ensures { IsAdmission service.now (map meaning verifiers.now) call.now books.old result books.new }
+{
+    let decision = decide(alloc, service, verifiers, call);
+    admission(decision, books, call)
+}
+
+/// What [`admit_by_memory`] answers.
+#[derive(Drop)]
+#[must_use]
+pub struct RecalledAdmission<'s> {
+    /// The answer of [`admit`].
+    pub admission: Admission<'s>,
+    /// Whether the verdict on the token was remembered: no signature of it was verified.
+    pub remembered: bool,
+}
+
+/// The answer of [`admit`], with a memory as [`decide_by_memory`] has it.
+pub fn admit_by_memory<'s>(
+    alloc: Global,
+    service: &Service<'s>,
+    verifiers: &[Box<dyn Verifier>],
+    memory: &mut Memory,
+    books: &mut Books,
+    call: &Call<'_>,
+) -> RecalledAdmission<'s>
+    requires kept { IsMemoryOf service.now (map meaning verifiers.now) memory.old }
+    ensures admission { IsAdmission service.now (map meaning verifiers.now) call.now books.old result.admission books.new }
+    ensures recalled { IsRecalled service.now call.now memory.old result.remembered }
+    ensures kept { IsMemoryOf service.now (map meaning verifiers.now) memory.new }
+    ensures room { HasRoomOf memory.new memory.old }
+{
+    let RecalledDecision {
+        decision,
+        remembered,
+    } = decide_by_memory(alloc, service, verifiers, memory, call);
+    RecalledAdmission {
+        admission: admission(decision, books, call),
+        remembered,
+    }
 }

@@ -23,7 +23,7 @@ pub(crate) struct Verified {
 }
 
 /// The algorithm that the header of this signature names.
-fn alg_at(signed: &Signed<'_>, signature: u32) -> Option<Alg>
+pub(crate) fn alg_at(signed: &Signed<'_>, signature: u32) -> Option<Alg>
     ensures { result ≡ alg_at (token signed.now) signature }
 {
     let signature = signed.signature(signature)?;

@@ -12,6 +12,7 @@
 //! ```
 #![tactic(auto)]
 
+mod accepting;
 mod admission;
 mod admitting;
 mod asking;
@@ -24,6 +25,7 @@ mod judging;
 pub mod laws;
 mod path;
 mod proving;
+mod recalling;
 mod reply;
 mod rule;
 mod service;
@@ -31,7 +33,9 @@ mod shown;
 mod unshown;
 
 pub use admission::{Admission, Passed, Refusal};
-pub use admitting::{admit, decide};
+pub use admitting::{
+    RecalledAdmission, RecalledDecision, admit, admit_by_memory, decide, decide_by_memory,
+};
 pub use asking::AskingFault;
 pub use books::Books;
 pub use call::Call;

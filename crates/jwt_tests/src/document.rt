@@ -1,6 +1,6 @@
 //! The document of a service.
 use crate::asserted::holds;
-use jwt_document::{Cause, Document, FaultAt, ServiceFault, Source};
+use jwt_document::{Cause, Certificates, Document, FaultAt, ServiceFault, Source};
 use std::alloc::Global;
 use std::process::Abort;
 use std::test::Fail;
@@ -12,7 +12,7 @@ const READ: &str = r#"0,0 {"issuers":[]}
 3,0 {"issuers":[{"policy":{"algs":["RS256"],"issuers":["https://id.example"]},"keys":{"discover":true}},{"policy":{"algs":["RS256"],"issuers":["https://partner.example"]},"keys":{"url":"https://partner.example/jwks","max_age":7200}},{"policy":{"algs":["ES256"],"issuers":["https://old.example"]},"keys":{"set":{"keys":[{"kty":"EC","crv":"P-256","x":"5giCS5gZo8D8MISLn5buTJV3o2BqanitViNxRVk5q-A","y":"M1yUU4gZYfRk8SQEuGoX9HO9sig_7fp-q6qKN8-lSIo"}]}}}]}
 1,0 {"issuers":[{"policy":{"algs":["HS256"],"issuers":["billing"],"required":["sub"]},"keys":{"secret":"uR9hC0wq3vE8kTzN5bYd2LmXs7JaPfG4"}}]}
 0,0 {"issuers":[],"dpop":{"origins":["https://api.example","http://api.example:8080"],"only":true,"nonce":{"secret":"AAECAwQFBgcICQoLDA0ODxAREhMUFRYXGBkaGxwdHh8"}},"memory":{"proofs":100000}}
-1,0 {"issuers":[{"policy":{"algs":["ES256"]},"keys":{"pem":"-----BEGIN PUBLIC KEY-----\n"}}],"certificates":"required"}
+1,0 {"issuers":[{"policy":{"algs":["ES256"]},"keys":{"pem":"-----BEGIN PUBLIC KEY-----\nMFkwEwYHKoZIzj0CAQYIKoZIzj0DAQcDQgAE5giCS5gZo8D8MISLn5buTJV3o2Bq\nanitViNxRVk5q+AzXJRTiBlh9GTxJAS4ahf0c72yKD/t+n6rqoo3z6VIig==\n-----END PUBLIC KEY-----\n"}}],"certificates":"required"}
 0,0 {"issuers":[],"once":true}
 0,0 {"issuers":[],"remember":{"tokens":1000},"prepare":4,"earliest":0}
 0,4 {"issuers":[],"rules":{"orders":{"scopes":["orders:read"]},"change orders":{"scopes":["orders:read","orders:write"]},"admin":{"claims":{"/realm_access/roles":["admin"]}},"signed in":{}},"describe":true}
@@ -33,16 +33,21 @@ Range:version {"issuers":[],"version":2}
 Range:prepare {"issuers":[],"prepare":1025}
 Range:earliest {"issuers":[],"earliest":-1}
 Range:realm {"issuers":[],"realm":"a\"b"}
-Kind:expects {"issuers":[],"expects":["nonce",7]}
-Range:expects {"issuers":[],"expects":["nonce",""]}
+Kind:expects[1] {"issuers":[],"expects":["nonce",7]}
+Range:expects[1] {"issuers":[],"expects":["nonce","",7]}
 Range:certificates {"issuers":[],"certificates":"optional"}
-Range:origins {"issuers":[],"dpop":{"origins":["https://api.example/v1"]},"memory":{"proofs":1000}}
-Range:algs {"issuers":[],"dpop":{"origins":["https://api.example"],"algs":["HS256"]}}
+Range:origins[0] {"issuers":[],"dpop":{"origins":["https://api.example/v1"]},"memory":{"proofs":1000}}
+Range:algs[0] {"issuers":[],"dpop":{"origins":["https://api.example"],"algs":["HS256"]}}
 Missing:secret {"issuers":[],"dpop":{"origins":["https://api.example"],"nonce":{"period":60}}}
 Missing:proofs {"issuers":[],"dpop":{"origins":["https://api.example"]},"memory":{"tokens":1000}}
 Missing:tokens {"issuers":[],"once":true,"memory":{}}
 Missing:issue {"issuers":[],"onward":{"issuer":"a","audience":"b"}}
-Range:claims {"issuers":[],"onward":{"issuer":"a","audience":"b","claims":["exp"]},"issue":{"alg":"HS256"}}
+Range:claims[0] {"issuers":[],"onward":{"issuer":"a","audience":"b","claims":["exp"]},"issue":{"alg":"HS256"}}
+Together:issue {"issuers":[],"issue":{"alg":"HS256"}}
+Together:issue {"issuers":[],"issue":{"alg":"HS256","set":{"keys":[]},"secret":"kQ2vWc8rTn5xYb1LsZe7MdHf4JgUa9Po"}}
+Short:secret {"issuers":[],"issue":{"alg":"HS384","secret":"kQ2vWc8rTn5xYb1LsZe7MdHf4JgUa9Po"}}
+Short:secret {"issuers":[],"dpop":{"origins":["https://api.example"],"nonce":{"secret":"AAECAwQFBgcICQoLDA0ODxAREhMUFRYXGBkaGxwdHg"}}}
+Range:secret {"issuers":[],"dpop":{"origins":["https://api.example"],"nonce":{"secret":"AAECAwQFBgcICQoLDA0ODxAREhMUFRYXGBkaGxwdHh8="}}}
 Range: {"issuers":[],"rules":{"":{}}}
 Kind:a {"issuers":[],"rules":{"a":[]}}
 Rule:a {"issuers":[],"rules":{"a":{"scope":[]}}}
@@ -59,6 +64,8 @@ ShortSecret@0 {"issuers":[{"policy":{"algs":["HS256"]},"keys":{"secret":"secret"
 Url@0 {"issuers":[{"policy":{"algs":["RS256"],"issuers":["a"]},"keys":{"url":"http://id.example/keys"}}]}
 Issuer@0 {"issuers":[{"policy":{"algs":["RS256"]},"keys":{"url":"https://login.example/common/keys"}}]}
 Issuer@1 {"issuers":[{"policy":{"algs":["RS256"],"issuers":["a"]},"keys":{"file":"a"}},{"policy":{"algs":["RS256"]},"keys":{"file":"b"}}]}
+Pem@1 {"issuers":[{"policy":{"algs":["RS256"],"issuers":["a"]},"keys":{"file":"a"}},{"policy":{"algs":["ES256"],"issuers":["b"]},"keys":{"pem":"-----BEGIN PUBLIC KEY-----\n"}}]}
+NoUsableKey@0 {"issuers":[{"policy":{"algs":["RS256"]},"keys":{"pem":"-----BEGIN PUBLIC KEY-----\nMFkwEwYHKoZIzj0CAQYIKoZIzj0DAQcDQgAE5giCS5gZo8D8MISLn5buTJV3o2Bq\nanitViNxRVk5q+AzXJRTiBlh9GTxJAS4ahf0c72yKD/t+n6rqoo3z6VIig==\n-----END PUBLIC KEY-----\n"}}]}
 IssuerTwice@1 {"issuers":[{"policy":{"algs":["RS256"],"issuers":["a","b"]},"keys":{"file":"a"}},{"policy":{"algs":["RS256"],"issuers":["c","b"]},"keys":{"file":"b"}}]}"#;
 
 /// A cause, and the member that it is about.
@@ -68,8 +75,13 @@ fn told_at(alloc: Global, at: &FaultAt) -> Result<String, Fail> {
         Cause::Missing => "Missing",
         Cause::Kind => "Kind",
         Cause::Range => "Range",
+        Cause::Together => "Together",
+        Cause::Short => "Short",
     };
-    Ok(format!(in alloc; "{cause}:{}", at.name())?)
+    match at.element() {
+        Some(element) => Ok(format!(in alloc; "{cause}:{}[{element}]", at.name())?),
+        None => Ok(format!(in alloc; "{cause}:{}", at.name())?),
+    }
 }
 
 /// What was read, or the fault.
@@ -97,6 +109,7 @@ fn told(alloc: Global, document: &str) -> Result<String, Fail> {
         Err(ServiceFault::Issuer(n)) => ("Issuer", *n),
         Err(ServiceFault::IssuerTwice(n)) => ("IssuerTwice", *n),
         Err(ServiceFault::NotPublic(n)) => ("NotPublic", *n),
+        Err(ServiceFault::Pem(n, _)) => ("Pem", *n),
     };
     Ok(format!(in alloc; "{name}@{number}")?)
 }
@@ -144,4 +157,109 @@ fn has_strict_defaults(alloc: Global) -> bool {
 #[test]
 fn a_silent_document_is_strict(rt: HostRuntime) {
     holds(&rt, has_strict_defaults(rt.alloc()));
+    holds(&rt, has_the_defaults_of_rows(rt.alloc()).unwrap_or(false));
+}
+
+/// A document with each object, that writes no more than it has to.
+const SILENT: &str =
+    r#"{"issuers":[{"policy":{"algs":["RS256"],"issuers":["a"]},"keys":{"discover":true}},{"policy":{"algs":["HS256"],"issuers":["b"]},"keys":{"file":"b"}}],"remember":{"tokens":7},"dpop":{"origins":["https://a"],"nonce":{"secret":"AAECAwQFBgcICQoLDA0ODxAREhMUFRYXGBkaGxwdHh8"}},"memory":{"proofs":9},"issue":{"secret":"kQ2vWc8rTn5xYb1LsZe7MdHf4JgUa9Po","alg":"HS256"},"onward":{"issuer":"a","audience":"b"}}"#;
+
+/// Whether each default of a table is handed out.
+fn has_the_defaults_of_rows(alloc: Global) -> Option<bool> {
+    let document = Document::read(alloc, SILENT.as_bytes()).ok()?;
+    let whole = document.whole(alloc).ok()?;
+    let remember = document.remember()?;
+    let dpop = document.dpop(alloc).ok()??;
+    let nonce = dpop.nonce?;
+    let memory = document.memory()?;
+    let issue = document.issue()?;
+    let onward = document.onward(alloc).ok()??;
+    let fetched = document.keys_from(0)?;
+    let file = document.keys_from(1)?;
+    let of_all = whole.realm == "jwt" && !whole.describe && whole.earliest == 1_577_836_800;
+    let more = whole.prepare == 16 && !whole.once && whole.expects.is_empty();
+    let none = whole.certificates.is_none() && remember.tokens == 7 && remember.longest == 4_096;
+    let proofs = !dpop.only && dpop.max_age == 60 && dpop.leeway == 5 && nonce.period == 60;
+    let algs = dpop.algs.len() == 2 && dpop.algs[0] == "ES256" && dpop.algs[1] == "EdDSA";
+    let once = memory.proofs == Some(9) && memory.tokens.is_none() && memory.share == 16;
+    let earlier = !memory.earlier && issue.form == "compact" && issue.key == 0;
+    let own = onward.lifetime == 60 && onward.claims.len() == 2 && onward.claims[0] == "sub";
+    let by_url = fetched.refresh_after == 600 && fetched.max_age == Some(3_600) && !fetched.http;
+    let times = fetched.cool_down == 30 && fetched.timeout == 5 && fetched.text.is_none();
+    let of_file = file.refresh_after == 0 && file.max_age.is_none() && file.text == Some("b");
+    Some(
+        of_all
+            && more
+            && none
+            && proofs
+            && algs
+            && once
+            && earlier
+            && own
+            && by_url
+            && times
+            && of_file,
+    )
+}
+
+/// What is written is handed out, and the keys in PEM.
+fn has_what_is_written(alloc: Global) -> Option<bool> {
+    let document = Document::read(
+        alloc,
+        br#"{"issuers":[{"policy":{"algs":["ES256"]},"keys":{"pem":"-----BEGIN PUBLIC KEY-----\nMFkwEwYHKoZIzj0CAQYIKoZIzj0DAQcDQgAE5giCS5gZo8D8MISLn5buTJV3o2Bq\nanitViNxRVk5q+AzXJRTiBlh9GTxJAS4ahf0c72yKD/t+n6rqoo3z6VIig==\n-----END PUBLIC KEY-----\n"}}],"certificates":"bound","expects":["nonce"],"once":true}"#,
+    )
+    .ok()?;
+    let whole = document.whole(alloc).ok()?;
+    let keys = document.keys(0)?;
+    let nonce = whole.expects.len() == 1 && whole.expects[0] == "nonce";
+    Some(
+        whole.certificates == Some(Certificates::Bound)
+            && nonce
+            && whole.once
+            && keys.len() == 1
+            && document.keys(1).is_none()
+            && document.dpop(alloc).ok()?.is_none(),
+    )
+}
+
+/// Documents that are refused, each behind a line of what is said of its fault and where.
+const SAID: &str = r#"1:15 unknown member "rule", did you mean "rules"?
+{"issuers":[],"rule":{}}
+1:66 issuers[0].keys: unknown member "urll", did you mean "url"?
+{"issuers":[{"policy":{"algs":["RS256"],"issuers":["a"]},"keys":{"urll":"https://a/k"}}]}
+1:39 dpop.algs[1]: it has to be the name of an algorithm for public keys
+{"issuers":[],"dpop":{"algs":["ES256","HS256"],"origins":["https://a"]}}
+1:15 prepare: it has to be a whole number from 0 to 1024
+{"issuers":[],"prepare":"16"}
+1:1 the member "issuers" is missing
+{}
+1:16 not a JSON object
+{"issuers": [],}"#;
+
+/// Whether each fault is said so.
+fn are_said(alloc: Global) -> Result<bool, Fail> {
+    let mut lines = SAID.lines();
+    while let Some(said) = lines.next() {
+        let document = lines.next().ok_or("no document")?;
+        let Err(fault) = Document::read(alloc, document.as_bytes()) else {
+            return Ok(false);
+        };
+        let line = fault.line(alloc)?;
+        let Some(place) = fault.place(alloc, document.as_bytes())? else {
+            return Ok(false);
+        };
+        let told = format!(in alloc; "{}:{} {}", place.line, place.column, line.as_str())?;
+        if told.as_str() != said {
+            return Ok(false);
+        }
+    }
+    Ok(true)
+}
+
+/// A document says what it says, and why it is refused.
+#[test]
+fn documents_and_faults_are_handed_out(rt: HostRuntime) -> Result<(), Fail> {
+    holds(&rt, has_what_is_written(rt.alloc()).unwrap_or(false));
+    holds(&rt, are_said(rt.alloc())?);
+    Ok(())
 }

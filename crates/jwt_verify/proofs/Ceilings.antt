@@ -1,6 +1,6 @@
 -- The work of a run is within the bound, so a ceiling of the bound is never exceeded.
 use Rattle.std.proofs.Common.{bytes_eq, ◌≡◌, ◌≢◌, ℕ, ℤ, zero, suc, ◌+◌, ◌*◌, ◌≤◌, Bool, true, false, List, [], ◌∷◌, length, map, take, drop, Option, Some, None, Result, Ok, Err, arith, refl, sym, ◌∙◌, ap, subst, inl, inr}
-use Rattle.std.specs.Prelude.{not, slice_get, nat_lt, if◌then◌else◌}
+use Rattle.std.specs.Prelude.{not, slice_get, nat_lt, if◌then◌else◌, codes}
 use Rattle.std.specs.Option.{option_map_or}
 use Rattle.std.specs.List.{list_any, prefix_len, range_with_len}
 use Rattle.std.proofs.Math.Nat.{le-max_left, le-max_right}
@@ -9,8 +9,8 @@ use Rattle.std.proofs.lemmas.Option.{slice_get_past}
 use Rattle.std.proofs.lemmas.List.{take-append-drop}
 use Rattle.std.proofs.lemmas.Slice.Eq.{bytes_eq-Decides}
 use Rattle.jwt_mac.specs.declared.algorithm.Alg.{Alg}
-use Rattle.jwt_mac.specs.declared.algorithm.Alg.TheVariants.{HS256, HS384, HS512, RS256, RS384, RS512, PS256, PS384, PS512, ES256, ES384, ES512, EdDSA}
-use Rattle.jwt_mac.specs.Algorithm.{is_hmac_alg, block_size, digest_size, try_cost, key_cost, name_of, alg_named}
+use Rattle.jwt_mac.specs.Algorithm.{is_hmac_alg, block_size, digest_size, try_cost, key_cost, name_of}
+use Rattle.jwt_mac.proofs.Names.{same_name}
 use Rattle.jwt_mac.specs.Verifying.{Meaning, KeyOctets, OctKey, RsaKey, EcKey, OkpKey, MessageOctets, signing_input}
 use Rattle.jwt_text.specs.Rows.{NoRow}
 use Rattle.jwt_jws.specs.Token.{Token, SignatureParts, message_of}
@@ -41,6 +41,7 @@ use Rattle.jwt_verify.specs.Verdicts.{work_bound}
 use Rattle.jwt_verify.proofs.Bounds.{work_bounded}
 use Rattle.jwt_verify.proofs.Judged.{table_of_token}
 use Rattle.jwt_verify.proofs.Paying.{work-append, paid_over}
+use Rattle.jwt_policy.proofs.BarNames.{row_fails}
 
 -- ---- the greatest of some numbers
 
@@ -49,28 +50,6 @@ greatest_at f [] i x h = cc
 greatest_at f (y ∷ xs) zero x h = let e : y ≡ x = cc in rw (sym e) (le-max_left (f y) (greatest (map f xs)))
 greatest_at f (y ∷ xs) (suc i) x h = omega (arith, greatest_at f xs i x h, le-max_right (f y) (greatest (map f xs)))
 
-named_back : (a : Alg) → alg_named (name_of a) ≡ Some a
-unfolding alg_named
-named_back HS256 = refl
-named_back HS384 = refl
-named_back HS512 = refl
-named_back RS256 = refl
-named_back RS384 = refl
-named_back RS512 = refl
-named_back PS256 = refl
-named_back PS384 = refl
-named_back PS512 = refl
-named_back ES256 = refl
-named_back ES384 = refl
-named_back ES512 = refl
-named_back EdDSA = refl
-
-alg_same : (a b : Alg) → bytes_eq (name_of a) (name_of b) ≡ true → a ≡ b
-alg_same a b h =
-    let e : name_of a ≡ name_of b = (bytes_eq-Decides (name_of a) (name_of b)).0 h in
-    let s : Some a ≡ Some b = sym (named_back a) ∙ ap alg_named e ∙ named_back b in
-    cc
-
 -- an algorithm is among these
 abbrev is_allowed : List Alg → Alg → Bool
 is_allowed algs a = list_any (λ b. bytes_eq (name_of b) (name_of a)) algs
@@ -78,7 +57,7 @@ is_allowed algs a = list_any (λ b. bytes_eq (name_of b) (name_of a)) algs
 greatest_allowed : (f : Alg → ℕ) (algs : List Alg) (a : Alg) → is_allowed algs a ≡ true → f a ≤ greatest (map f algs)
 greatest_allowed f [] a h = cc
 greatest_allowed f (b ∷ algs) a h = elim (cases_Bool (bytes_eq (name_of b) (name_of a))) [
-  | inl y ↦ (let e : b ≡ a = alg_same b a y in rw (sym e) (le-max_left (f b) (greatest (map f algs))))
+  | inl y ↦ (let e : b ≡ a = same_name a b y in rw (sym e) (le-max_left (f b) (greatest (map f algs))))
   | inr n ↦ (let k = rw n at h in omega (arith, greatest_allowed f algs a k, le-max_right (f b) (greatest (map f algs))))
 ]
 
@@ -87,7 +66,7 @@ greatest_allowed f (b ∷ algs) a h = elim (cases_Bool (bytes_eq (name_of b) (na
 -- the row of an algorithm that isn't allowed doesn't hold
 allowed : (p : Settings) (s : SignatureParts) (v : List Meaning) (a : Alg) → NoRow (bar_rows p s v) → alg s ≡ Some a → is_allowed p.run.algs a ≡ true
 allowed p s v a none e =
-    let n : not (some_passes (is_allowed p.run.algs) (alg s)) ≡ false = none 3 _ refl in
+    let n : not (some_passes (is_allowed p.run.algs) (alg s)) ≡ false = row_fails (codes "AlgNotAllowed") (bar_rows p s v) _ none refl in
     let m = rw e at n in
     not_not (is_allowed p.run.algs a) m
   where

@@ -10,8 +10,10 @@ use Rattle.std.proofs.lemmas.List.Elements.{All-head, All-tail}
 use Rattle.std.proofs.lemmas.List.Sums.{sum_by-append, sum_by_push, sum_by-cons}
 use Rattle.std.proofs.lemmas.Option.{slice_get-get_or}
 use Rattle.jwt_mac.specs.declared.algorithm.Alg.{Alg}
-use Rattle.jwt_mac.specs.declared.algorithm.Alg.TheVariants.{HS256, HS384, HS512, RS256, RS384, RS512, PS256, PS384, PS512, ES256, ES384, ES512, EdDSA}
-use Rattle.jwt_mac.specs.Algorithm.{is_hmac_alg, block_size, digest_size}
+use Rattle.jwt_mac.specs.declared.algorithm.Hash.TheVariants.{Sha256, Sha384, Sha512}
+use Rattle.jwt_mac.specs.declared.algorithm.Kind.{Kind}
+use Rattle.jwt_mac.specs.declared.algorithm.Kind.TheVariants.{Hmac}
+use Rattle.jwt_mac.specs.Algorithm.{is_hmac_alg, kind_of, block_by, digest_by, block_size, digest_size}
 use Rattle.jwt_mac.specs.Verifying.{KeyOctets, OctKey, RsaKey, EcKey, OkpKey, signing_input}
 use Rattle.jwt_jws.specs.Token.{Token, SignatureParts, message_of}
 use Rattle.jwt_jws.specs.SignedToken.{MessagesFit, SignaturesAreFew}
@@ -118,34 +120,22 @@ shorter drops x = either (drops && option_map_or (λ octet. octet == 10) (slice_
     either false = omega arith
 
 block_most : (a : Alg) → block_size a ≤ 128
-block_most HS256 = omega arith
-block_most HS384 = omega arith
-block_most HS512 = omega arith
-block_most RS256 = omega arith
-block_most RS384 = omega arith
-block_most RS512 = omega arith
-block_most PS256 = omega arith
-block_most PS384 = omega arith
-block_most PS512 = omega arith
-block_most ES256 = omega arith
-block_most ES384 = omega arith
-block_most ES512 = omega arith
-block_most EdDSA = omega arith
+block_most a = by (kind_of a)
+  where
+    by : (kind : Kind) → block_by kind ≤ 128
+    by (Hmac Sha256) = omega arith
+    by (Hmac Sha384) = omega arith
+    by (Hmac Sha512) = omega arith
+    by _ = omega arith
 
 digest_most : (a : Alg) → digest_size a ≤ 64
-digest_most HS256 = omega arith
-digest_most HS384 = omega arith
-digest_most HS512 = omega arith
-digest_most RS256 = omega arith
-digest_most RS384 = omega arith
-digest_most RS512 = omega arith
-digest_most PS256 = omega arith
-digest_most PS384 = omega arith
-digest_most PS512 = omega arith
-digest_most ES256 = omega arith
-digest_most ES384 = omega arith
-digest_most ES512 = omega arith
-digest_most EdDSA = omega arith
+digest_most a = by (kind_of a)
+  where
+    by : (kind : Kind) → digest_by kind ≤ 64
+    by (Hmac Sha256) = omega arith
+    by (Hmac Sha384) = omega arith
+    by (Hmac Sha512) = omega arith
+    by _ = omega arith
 
 secrets_most : (keys : List KeyParts) → All (λ key. secret_length key.octets ≤ 4096) keys → secrets keys ≤ length keys * 4096
 secrets_most [] h = omega arith

@@ -1,16 +1,18 @@
 -- What the table says of a pair, from the layers' words.
 use Rattle.std.proofs.Common.{◌≡◌, ℕ, ◌<◌, ◌≤◌, Bool, true, false, List, length, map, Option, Some, None, refl, sym, ◌∙◌, ap, subst, arith, ◌*◌, ◌^◌, zero, suc, [], ◌∷◌, inl, inr}
-use Rattle.std.specs.Prelude.{◌&&◌, slice_get, option_map, not, MatchOption}
+use Rattle.std.specs.Prelude.{◌&&◌, slice_get, option_map, not, MatchOption, codes}
 use Rattle.std.specs.Option.{option_map_or}
 use Rattle.std.proofs.lemmas.Bool.{cases_lt}
 use Rattle.std.proofs.lemmas.List.{length-map}
 use Rattle.jwt_keys.specs.Views.{key_parts}
 use Rattle.std.proofs.lemmas.Option.{slice_get_within}
 use Rattle.jwt_mac.specs.declared.algorithm.Alg.{Alg}
-use Rattle.jwt_mac.specs.declared.algorithm.Alg.TheVariants.{HS256, HS384, HS512}
+use Rattle.jwt_mac.specs.declared.algorithm.Kind.{Kind}
+use Rattle.jwt_mac.specs.declared.algorithm.Kind.TheVariants.{Hmac, Ecdsa}
+use Rattle.jwt_mac.specs.declared.key_view.EcCurve.TheVariants.{P256, P384, P521}
 use Rattle.jwt_mac.specs.declared.key_view.EcCurve.{EcCurve}
 use Rattle.jwt_mac.specs.declared.key_view.EdCurve.{EdCurve}
-use Rattle.jwt_mac.specs.Algorithm.{is_hmac_alg}
+use Rattle.jwt_mac.specs.Algorithm.{is_hmac_alg, kind_of, is_hmac}
 use Rattle.jwt_mac.specs.Verifying.{Meaning, KeyOctets, OctKey, RsaKey, EcKey, OkpKey, MessageOctets, first_naming, message_octets}
 use Rattle.jwt_text.specs.Rows.{NoRow}
 use Rattle.jwt_jws.specs.declared.signed.Signed.{Signed}
@@ -22,7 +24,7 @@ use Rattle.jwt_keys.specs.Numbers.{IsLeastFrom}
 use Rattle.jwt_policy.specs.declared.sig_fault.SigFault.{SigFault}
 use Rattle.jwt_policy.specs.Settings.{Settings}
 use Rattle.jwt_policy.specs.Bars.{alg, can_verify, bar_of, bar_rows}
-use Rattle.jwt_policy.specs.Eligible.{suits, is_for, fits, eligible_for}
+use Rattle.jwt_policy.specs.Eligible.{suits, suits_kind, is_for, fits, eligible_for}
 use Rattle.jwt_policy.specs.Texts.{some_passes}
 use Rattle.jwt_verify.specs.declared.terms.Terms.{Terms as CodeTerms}
 use Rattle.jwt_verify.specs.declared.live_signature.Numbered.{Numbered}
@@ -37,6 +39,7 @@ use Rattle.jwt_verify.specs.Table.{Table}
 use Rattle.jwt_verify.specs.Walk.{NoneEligible, IsNextKey, goes_on}
 use Rattle.jwt_verify.proofs.Judged.{unbarred_by, few_pairs}
 use Rattle.jwt_verify.proofs.Named.{passes_within}
+use Rattle.jwt_policy.proofs.BarNames.{row_fails}
 
 pub at_pair_is : {A : Type 0} (f : SignatureParts → KeyParts → A) (d : A) (t : Token) (ks : List KeyParts) (i j : ℕ) (s : SignatureParts) (k : KeyParts) → slice_get t.signatures i ≡ Some s → slice_get ks j ≡ Some k → at_pair f d t ks i j ≡ f s k
 at_pair_is f d t ks i j s k e h = rw (e, h) refl
@@ -76,7 +79,7 @@ passes p o a e h = let q = rw e at h in go (p a) q
 
 -- a verifier is found for its algorithm, or it is HMAC
 pub named_verified : (p : Settings) (v : List Meaning) (s : SignatureParts) (a : Alg) → NoRow (bar_rows p s v) → alg s ≡ Some a → can_verify v a ≡ true
-named_verified p v s a h e = passes (can_verify v) (alg s) a e (h 4 _ refl)
+named_verified p v s a h e = passes (can_verify v) (alg s) a e (row_fails (codes "NoVerifier") (bar_rows p s v) _ h refl)
 
 pub verifier_hmac : (v : List Meaning) (a : Alg) (o : Option Meaning) → is_hmac_alg a ≡ true → o ≡ None → IsVerifier v a o
 verifier_hmac v a o h e = rw e h
@@ -124,10 +127,14 @@ fits_suits : (p : Settings) (s : SignatureParts) (k : KeyParts) (a : Alg) → al
 fits_suits p s k a e h = let named : some_passes (is_for k) (alg s) ≡ true = and_left _ _ (and_left _ _ h) in let q : is_for k a ≡ true = rw e at named in and_left _ _ q
 
 secret_hmac : (a : Alg) (k : List ℕ) → suits a (OctKey k) ≡ true → is_hmac_alg a ≡ true
-secret_hmac HS256 k h = refl
-secret_hmac HS384 k h = refl
-secret_hmac HS512 k h = refl
-secret_hmac _ k h = cc
+secret_hmac a k h = by (kind_of a) h
+  where
+    by : (kind : Kind) → suits_kind kind (OctKey k) ≡ true → is_hmac kind ≡ true
+    by (Hmac hash) h = refl
+    by (Ecdsa P256) h = cc
+    by (Ecdsa P384) h = cc
+    by (Ecdsa P521) h = cc
+    by _ h = cc
 
 cost_none : (a : Alg) (k : KeyOctets) (m : MessageOctets) → suits a k ≡ true → is_hmac_alg a ≡ false → cost_under a k m ≡ 0
 cost_none a (OctKey k) m h e = let q = sym (secret_hmac a k h) ∙ e in cc
@@ -187,22 +194,25 @@ key_suits : (p : Settings) (s : SignatureParts) (ks : List KeyParts) (from j : �
 key_suits p s ks from j k a n h e = fits_suits p s k a n (key_fits (fits p s) ks j k h.1 e)
 
 rsa_is_public : (a : Alg) (n e : List ℕ) → suits a (RsaKey n e) ≡ true → is_hmac_alg a ≡ true → ⊥
-rsa_is_public HS256 n e h m = cc
-rsa_is_public HS384 n e h m = cc
-rsa_is_public HS512 n e h m = cc
-rsa_is_public _ n e h m = cc
+rsa_is_public a n e h m = by (kind_of a) h m
+  where
+    by : (kind : Kind) → suits_kind kind (RsaKey n e) ≡ true → is_hmac kind ≡ true → ⊥
+    by (Hmac hash) h m = cc
+    by _ h m = cc
 
 ec_is_public : (a : Alg) (curve : EcCurve) (x y : List ℕ) → suits a (EcKey curve x y) ≡ true → is_hmac_alg a ≡ true → ⊥
-ec_is_public HS256 curve x y h m = cc
-ec_is_public HS384 curve x y h m = cc
-ec_is_public HS512 curve x y h m = cc
-ec_is_public _ curve x y h m = cc
+ec_is_public a curve x y h m = by (kind_of a) h m
+  where
+    by : (kind : Kind) → suits_kind kind (EcKey curve x y) ≡ true → is_hmac kind ≡ true → ⊥
+    by (Hmac hash) h m = cc
+    by _ h m = cc
 
 okp_is_public : (a : Alg) (curve : EdCurve) (x : List ℕ) → suits a (OkpKey curve x) ≡ true → is_hmac_alg a ≡ true → ⊥
-okp_is_public HS256 curve x h m = cc
-okp_is_public HS384 curve x h m = cc
-okp_is_public HS512 curve x h m = cc
-okp_is_public _ curve x h m = cc
+okp_is_public a curve x h m = by (kind_of a) h m
+  where
+    by : (kind : Kind) → suits_kind kind (OkpKey curve x) ≡ true → is_hmac kind ≡ true → ⊥
+    by (Hmac hash) h m = cc
+    by _ h m = cc
 
 suits_secret : (a : Alg) (k : KeyOctets) → suits a k ≡ true → is_hmac_alg a ≡ true → IsSecret k
 suits_secret a (OctKey s) h m = (s, refl)

@@ -9,8 +9,8 @@ ghost use Rattle.jwt_words.specs.Seen.{command_view, files_view, lines_view};
 
 use crate::command::{Command, Files, LinesOrder};
 use crate::expectation::expectation_of;
-use crate::jwk::{chosen_jwk, chosen_kept_secret, chosen_secret};
-use crate::policy::chosen_policy;
+use crate::jwk::{chosen_jwk, chosen_kept_secret, chosen_secret, value};
+use crate::policy::{chosen_policy, documents_in};
 use crate::pretty::chosen_pretty;
 use clap::ArgMatches;
 use jwt_jws::Form;
@@ -286,14 +286,8 @@ fn chosen_form(options: &ArgMatches<'_>) -> Option<Form>
 fn chosen_keys_file<'a>(options: &ArgMatches<'a>) -> Files<'a>
     ensures { files_view result ≡ keys_file_in (rows_of (found_of options.now)) }
 {
-    let keys = options.get_str("keys");
-    Files {
-        policy: None,
-        keys,
-        access: None,
-        token: None,
-        key: None,
-    }
+    let keys = value(options, "keys");
+    documents_in(None, keys)
 }
 
 /// The request of `issue`.

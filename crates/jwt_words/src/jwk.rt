@@ -135,20 +135,9 @@ fn key_file_in<'a>(name: Option<&'a str>) -> Files<'a>
     ensures { files_view result ≡ key_file_in (option_map (λ t. t.now) name.entry) }
 {
     Files {
-        policy: None,
-        keys: None,
-        access: None,
-        token: None,
         key: name,
+        ..Files::none()
     }
-}
-
-/// The file of the keys.
-fn chosen_key_file<'a>(options: &ArgMatches<'a>) -> Files<'a>
-    ensures { files_view result ≡ key_file_in (first_of (codes "file") (rows_of (found_of options.now))) }
-{
-    let name = value(options, "file");
-    key_file_in(name)
 }
 
 /// What `jwk` asks for without `--new`.
@@ -160,7 +149,8 @@ pub(crate) fn chosen_jwk<'a>(options: &ArgMatches<'a>) -> Option<JwkOrder<'a>>
     let printing = chosen_printing(options);
     let der = is_set(options, "der");
     let bare = is_set(options, "bare");
-    let files = chosen_key_file(options);
+    let name = value(options, "file");
+    let files = key_file_in(name);
     Some(JwkOrder {
         printing,
         der,

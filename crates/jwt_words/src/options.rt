@@ -29,226 +29,75 @@ pub(crate) struct OptionRow {
     pub help: &'static str,
 }
 
+// A row of the table: its name, what help calls its value, what it takes, and its help.
+macro_rules! row {
+    ($name:literal, $value:literal, $takes:ident, $help:literal) => {
+        OptionRow {
+            name: $name,
+            value: $value,
+            takes: Takes::$takes,
+            help: $help,
+        }
+    };
+}
+
 /// The options of `mac`.
 pub(crate) const MAC: [OptionRow; 3] = [
-    OptionRow {
-        name: "k",
-        value: "TEXT",
-        takes: Takes::Text,
-        help: "The key, octets in base64url; other users can see it, so it is for test keys",
-    },
-    OptionRow {
-        name: "key-file",
-        value: "FILE",
-        takes: Takes::Text,
-        help: "The file of the key, octets in base64url, in the place of --k",
-    },
-    OptionRow {
-        name: "limit",
-        value: "N",
-        takes: Takes::Size,
-        help: "The most octets of a token",
-    },
+    row! { "k", "TEXT", Text, "The key, octets in base64url; other users can see it, so it is for test keys" },
+    row! { "key-file", "FILE", Text, "The file of the key, octets in base64url, in the place of --k" },
+    row! { "limit", "N", Size, "The most octets of a token" },
 ];
 
 /// The options of `keys`.
-pub(crate) const KEYS: [OptionRow; 1] = [OptionRow {
-    name: "json",
-    value: "",
-    takes: Takes::Nothing,
-    help: "Prints one JSON object on one line",
-}];
+pub(crate) const KEYS: [OptionRow; 1] = [
+    row! { "json", "", Nothing, "Prints one JSON object on one line" },
+];
 
 /// The options of `show`.
 pub(crate) const SHOW: [OptionRow; 4] = [
-    OptionRow {
-        name: "limit",
-        value: "N",
-        takes: Takes::Size,
-        help: "The most octets of a token",
-    },
-    OptionRow {
-        name: "json",
-        value: "",
-        takes: Takes::Nothing,
-        help: "Prints one JSON object on one line",
-    },
-    OptionRow {
-        name: "pretty",
-        value: "",
-        takes: Takes::Nothing,
-        help: "Prints the headers and the payload for a person, with the dates in words",
-    },
-    OptionRow {
-        name: "now",
-        value: "N",
-        takes: Takes::MaybeMoment,
-        help: "The moment, in seconds since 1970-01-01T00:00:00Z, or as a date, 2026-01-31T12:00:00Z; where it is left out, the clock's",
-    },
+    row! { "limit", "N", Size, "The most octets of a token" },
+    row! { "json", "", Nothing, "Prints one JSON object on one line" },
+    row! { "pretty", "", Nothing, "Prints the headers and the payload for a person, with the dates in words" },
+    row! { "now", "N", MaybeMoment, "The moment, in seconds since 1970-01-01T00:00:00Z, or as a date, 2026-01-31T12:00:00Z; where it is left out, the clock's" },
 ];
 
 /// The options of `verify`.
 pub(crate) const VERIFY: [OptionRow; 9] = [
-    OptionRow {
-        name: "now",
-        value: "N",
-        takes: Takes::Moment,
-        help: "The moment, in seconds since 1970-01-01T00:00:00Z, or as a date, 2026-01-31T12:00:00Z; where it is left out, the clock's",
-    },
-    OptionRow {
-        name: "public-keys",
-        value: "",
-        takes: Takes::Nothing,
-        help: "Verifies signatures by public keys too: RS256, RS384, RS512, PS256, PS384, PS512, ES256, ES384, ES512, EdDSA (Ed25519)",
-    },
-    OptionRow {
-        name: "policy",
-        value: "FILE",
-        takes: Takes::Text,
-        help: "The file of the policy, which standard input then lacks",
-    },
-    OptionRow {
-        name: "keys",
-        value: "FILE",
-        takes: Takes::Text,
-        help: "The file of the key set, which standard input then lacks",
-    },
-    OptionRow {
-        name: "token",
-        value: "FILE",
-        takes: Takes::Text,
-        help: "The file of the token, of which one final line feed is dropped; - is standard input, and so is --trim",
-    },
-    OptionRow {
-        name: "access",
-        value: "FILE",
-        takes: Takes::Text,
-        help: "The file of an access rule, which the claims of an accepted token have to meet",
-    },
-    OptionRow {
-        name: "expect",
-        value: "NAME=TEXT",
-        takes: Takes::Text,
-        help: "The claim NAME of an accepted token has to be this very text, as the nonce of a login",
-    },
-    OptionRow {
-        name: "lines",
-        value: "",
-        takes: Takes::Nothing,
-        help: "Answers each line of standard input as a token, before the next is waited for; needs --policy and --keys",
-    },
-    OptionRow {
-        name: "json",
-        value: "",
-        takes: Takes::Nothing,
-        help: "Prints one JSON object on one line",
-    },
+    row! { "now", "N", Moment, "The moment, in seconds since 1970-01-01T00:00:00Z, or as a date, 2026-01-31T12:00:00Z; where it is left out, the clock's" },
+    row! { "public-keys", "", Nothing, "Verifies signatures by public keys too: RS256, RS384, RS512, PS256, PS384, PS512, ES256, ES384, ES512, EdDSA (Ed25519)" },
+    row! { "policy", "FILE", Text, "The file of the policy, which standard input then lacks" },
+    row! { "keys", "FILE", Text, "The file of the key set, which standard input then lacks" },
+    row! { "token", "FILE", Text, "The file of the token, of which one final line feed is dropped; - is standard input, and so is --trim" },
+    row! { "access", "FILE", Text, "The file of an access rule, which the claims of an accepted token have to meet" },
+    row! { "expect", "NAME=TEXT", Text, "The claim NAME of an accepted token has to be this very text, as the nonce of a login" },
+    row! { "lines", "", Nothing, "Answers each line of standard input as a token, before the next is waited for; needs --policy and --keys" },
+    row! { "json", "", Nothing, "Prints one JSON object on one line" },
 ];
 
 /// The options of `issue`.
 pub(crate) const ISSUE: [OptionRow; 4] = [
-    OptionRow {
-        name: "alg",
-        value: "A",
-        takes: Takes::Needed,
-        help: "The algorithm: HS256, HS384 or HS512",
-    },
-    OptionRow {
-        name: "typ",
-        value: "T",
-        takes: Takes::Text,
-        help: "The media type of the token, as its header names it",
-    },
-    OptionRow {
-        name: "form",
-        value: "F",
-        takes: Takes::Form,
-        help: "The form of the token: compact, json or flattened",
-    },
-    OptionRow {
-        name: "keys",
-        value: "FILE",
-        takes: Takes::Text,
-        help: "The file of the key set, which standard input then lacks",
-    },
+    row! { "alg", "A", Needed, "The algorithm: HS256, HS384 or HS512" },
+    row! { "typ", "T", Text, "The media type of the token, as its header names it" },
+    row! { "form", "F", Form, "The form of the token: compact, json or flattened" },
+    row! { "keys", "FILE", Text, "The file of the key set, which standard input then lacks" },
 ];
 
 /// The options of `jwk`.
 pub(crate) const JWK: [OptionRow; 9] = [
-    OptionRow {
-        name: "file",
-        value: "FILE",
-        takes: Takes::Text,
-        help: "The file of the keys, in the place of standard input",
-    },
-    OptionRow {
-        name: "der",
-        value: "",
-        takes: Takes::Nothing,
-        help: "Reads one key in DER, in the place of PEM",
-    },
-    OptionRow {
-        name: "kid",
-        value: "NAME",
-        takes: Takes::Text,
-        help: "The kid of each key",
-    },
-    OptionRow {
-        name: "kid-thumbprint",
-        value: "",
-        takes: Takes::Nothing,
-        help: "Gives each key its thumbprint by SHA-256 as kid",
-    },
-    OptionRow {
-        name: "alg",
-        value: "A",
-        takes: Takes::Text,
-        help: "The alg of each key: RS256, RS384, RS512, PS256, PS384, PS512, ES256, ES384, ES512 or EdDSA",
-    },
-    OptionRow {
-        name: "bare",
-        value: "",
-        takes: Takes::Nothing,
-        help: "Prints the JWK alone, of one key",
-    },
-    OptionRow {
-        name: "new",
-        value: "A",
-        takes: Takes::Text,
-        help: "Makes a new secret, for HS256, HS384 or HS512; reads no key",
-    },
-    OptionRow {
-        name: "secret",
-        value: "FILE",
-        takes: Takes::Text,
-        help: "The file of a secret, its octets as they are, for the HS256, HS384 or HS512 of --alg",
-    },
-    OptionRow {
-        name: "json",
-        value: "",
-        takes: Takes::Nothing,
-        help: "Prints one JSON object on one line",
-    },
+    row! { "file", "FILE", Text, "The file of the keys, in the place of standard input" },
+    row! { "der", "", Nothing, "Reads one key in DER, in the place of PEM" },
+    row! { "kid", "NAME", Text, "The kid of each key" },
+    row! { "kid-thumbprint", "", Nothing, "Gives each key its thumbprint by SHA-256 as kid" },
+    row! { "alg", "A", Text, "The alg of each key: RS256, RS384, RS512, PS256, PS384, PS512, ES256, ES384, ES512 or EdDSA" },
+    row! { "bare", "", Nothing, "Prints the JWK alone, of one key" },
+    row! { "new", "A", Text, "Makes a new secret, for HS256, HS384 or HS512; reads no key" },
+    row! { "secret", "FILE", Text, "The file of a secret, its octets as they are, for the HS256, HS384 or HS512 of --alg" },
+    row! { "json", "", Nothing, "Prints one JSON object on one line" },
 ];
 
 /// The options of `policy`.
 pub(crate) const POLICY: [OptionRow; 3] = [
-    OptionRow {
-        name: "policy",
-        value: "FILE",
-        takes: Takes::Needed,
-        help: "The file of the policy",
-    },
-    OptionRow {
-        name: "keys",
-        value: "FILE",
-        takes: Takes::Text,
-        help: "The file of the key set that goes with it",
-    },
-    OptionRow {
-        name: "json",
-        value: "",
-        takes: Takes::Nothing,
-        help: "Prints one JSON object on one line",
-    },
+    row! { "policy", "FILE", Needed, "The file of the policy" },
+    row! { "keys", "FILE", Text, "The file of the key set that goes with it" },
+    row! { "json", "", Nothing, "Prints one JSON object on one line" },
 ];

@@ -21,16 +21,14 @@ pub struct PolicyOrder<'a> {
 }
 
 /// The files of a policy and of a key set.
-fn documents_in<'a>(policy: Option<&'a str>, keys: Option<&'a str>) -> Files<'a>
+pub(crate) fn documents_in<'a>(policy: Option<&'a str>, keys: Option<&'a str>) -> Files<'a>
     ensures { files_view result
         ≡ documents_in (option_map (λ t. t.now) policy.entry) (option_map (λ t. t.now) keys.entry) }
 {
     Files {
         policy,
         keys,
-        access: None,
-        token: None,
-        key: None,
+        ..Files::none()
     }
 }
 

@@ -8,7 +8,7 @@ ghost use Rattle.ecdsa.specs.jws.Held.{prepared_number, room};
 use crate::jws::verifier::{Ecdsa, answer, is_ecdsa};
 use crate::jws::verifying_by::{verifies_es256_by, verifies_es384_by, verifies_es512_by};
 use crate::{PreparedKeys, prepare_p256, prepare_p384, prepare_p521};
-use jwt_mac::{Alg, Answer, EcCurve, KeyView, Message, Verifier};
+use jwt_mac::{Alg, Answer, EcCurve, KeyView, Kind, Message, Verifier};
 use std::alloc::{AllocError, Global};
 
 /// [`Ecdsa`], and some keys prepared: a signature by one of these takes a third of the time or less.
@@ -81,10 +81,16 @@ impl PreparedEcdsa {
             return false;
         };
         let parts = message.parts();
-        match (alg, *curve) {
-            (Alg::ES256, EcCurve::P256) => verifies_es256_by(&self.p256, x, y, parts, signature),
-            (Alg::ES384, EcCurve::P384) => verifies_es384_by(&self.p384, x, y, parts, signature),
-            (Alg::ES512, EcCurve::P521) => verifies_es512_by(&self.p521, x, y, parts, signature),
+        match (alg.kind(), *curve) {
+            (Kind::Ecdsa(EcCurve::P256), EcCurve::P256) => {
+                verifies_es256_by(&self.p256, x, y, parts, signature)
+            }
+            (Kind::Ecdsa(EcCurve::P384), EcCurve::P384) => {
+                verifies_es384_by(&self.p384, x, y, parts, signature)
+            }
+            (Kind::Ecdsa(EcCurve::P521), EcCurve::P521) => {
+                verifies_es512_by(&self.p521, x, y, parts, signature)
+            }
             _ => false,
         }
     }

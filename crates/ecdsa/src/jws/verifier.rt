@@ -5,13 +5,13 @@ ghost use Rattle.jwt_mac.specs.Verifying.{AnswersBy, key_octets, message_octets,
 ghost use Rattle.ecdsa.specs.jws.Meanings.{names_ecdsa, accepts_ecdsa};
 
 use crate::jws::verifying::{verifies_es256, verifies_es384, verifies_es512};
-use jwt_mac::{Alg, Answer, EcCurve, KeyView, Message, Verifier};
+use jwt_mac::{Alg, Answer, EcCurve, KeyView, Kind, Message, Verifier};
 
 /// Whether it is ES256, ES384 or ES512.
 pub(crate) fn is_ecdsa(alg: Alg) -> bool
     ensures { result ≡ names_ecdsa alg }
 {
-    matches!(alg, Alg::ES256 | Alg::ES384 | Alg::ES512)
+    matches!(alg.kind(), Kind::Ecdsa(_))
 }
 
 /// Whether a signature is accepted.
@@ -23,10 +23,25 @@ fn is_accepted(alg: Alg, key: &KeyView, message: Message, signature: &[u8]) -> b
     let KeyView::Ec { curve, x, y } = key else {
         return false;
     };
-    match (alg, *curve) {
-        (Alg::ES256, EcCurve::P256) => verifies_es256(x, y, message.parts(), signature),
-        (Alg::ES384, EcCurve::P384) => verifies_es384(x, y, message.parts(), signature),
-        (Alg::ES512, EcCurve::P521) => verifies_es512(x, y, message.parts(), signature),
+    match (alg.kind(), *curve) {
+        (Kind::Ecdsa(EcCurve::P256), EcCurve::P256) => verifies_es256(
+            x,
+            y,
+            message.parts(),
+            signature,
+        ),
+        (Kind::Ecdsa(EcCurve::P384), EcCurve::P384) => verifies_es384(
+            x,
+            y,
+            message.parts(),
+            signature,
+        ),
+        (Kind::Ecdsa(EcCurve::P521), EcCurve::P521) => verifies_es512(
+            x,
+            y,
+            message.parts(),
+            signature,
+        ),
         _ => false,
     }
 }

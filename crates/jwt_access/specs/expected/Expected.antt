@@ -2,38 +2,21 @@
 use Rattle.std.specs.Prelude.{ℕ, ◌/◌, List, length, take}
 use Rattle.std.specs.List.{Contains}
 use Rattle.serde_json.specs.Data.{string, Members}
-use Rattle.jwt_mac.specs.Algorithm.{sha256_of, sha384_of, sha512_of}
+use Rattle.jwt_mac.specs.Algorithm.{kind_of, hash_by, hashed}
 use Rattle.jwt_mac.specs.declared.algorithm.Alg.{Alg}
-use Rattle.jwt_mac.specs.declared.algorithm.Alg.TheVariants.{HS256, HS384, HS512, RS256, RS384, RS512, PS256, PS384, PS512, ES256, ES384, ES512, EdDSA}
 use Rattle.jwt_text.specs.Base64url.{spelling}
 use Rattle.jwt_access.specs.Granted.{IsClaim}
 use Rattle.jwt_access.specs.declared.expected.expected.Wanted.{Wanted}
 use Rattle.jwt_access.specs.declared.expected.expected.Wanted.TheVariants.{Text, HalfHash}
 use Rattle.jwt_access.specs.declared.expected.expected.Expected.{Expected}
 
--- the hash function of the signature's algorithm (RFC 7518, section 3.1); of EdDSA that of Ed25519 (RFC 8032, section 5.1)
-abbrev pub hash_by : Alg → List ℕ → List ℕ
-hash_by HS256 octets = sha256_of octets
-hash_by RS256 octets = sha256_of octets
-hash_by PS256 octets = sha256_of octets
-hash_by ES256 octets = sha256_of octets
-hash_by HS384 octets = sha384_of octets
-hash_by RS384 octets = sha384_of octets
-hash_by PS384 octets = sha384_of octets
-hash_by ES384 octets = sha384_of octets
-hash_by HS512 octets = sha512_of octets
-hash_by RS512 octets = sha512_of octets
-hash_by PS512 octets = sha512_of octets
-hash_by ES512 octets = sha512_of octets
-hash_by EdDSA octets = sha512_of octets
-
 -- the left-most half
 abbrev pub left_half : List ℕ → List ℕ
 left_half octets = take (length octets / 2) octets
 
--- base64url of the left-most half of the octets' hash (OpenID Connect Core 1.0, sections 3.1.3.6 and 3.3.2.11)
+-- base64url of the left-most half of the octets' hash, by the hash function of the signature's algorithm (OpenID Connect Core 1.0, sections 3.1.3.6 and 3.3.2.11)
 abbrev pub half_hash : Alg → List ℕ → List ℕ
-half_hash alg octets = spelling (left_half (hash_by alg octets))
+half_hash alg octets = spelling (left_half (hashed (hash_by (kind_of alg)) octets))
 
 -- the text that the claim has to be
 abbrev pub expected_text : Alg → Wanted → List ℕ

@@ -1,5 +1,5 @@
 //! What is said of a token, beside the line that the command has answered.
-use crate::reasons::advice::ADVICE;
+use crate::reasons::advice::advice;
 use crate::reasons::cause::Cause;
 
 /// What a refusal or a denial of a token means and what to do; none of any other answer.
@@ -22,7 +22,7 @@ pub fn around_token(token: &[u8]) -> Option<&'static str> {
 
 /// What an advice says and what to write, by its name.
 pub(crate) fn advice_sentence(name: &str) -> &'static str {
-    for (known, sentence) in &ADVICE {
+    for (known, sentence) in advice() {
         if *known == name {
             return *sentence;
         }

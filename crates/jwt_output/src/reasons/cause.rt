@@ -1,5 +1,5 @@
 //! What an answer refuses or denies something for.
-use crate::reasons::sentences::{DENIALS, REFUSALS};
+use crate::reasons::sentences::{denials, refusals};
 
 /// What an answer refuses or denies something for, as far as there is more to say of it.
 #[derive(Clone, Copy, Debug, Drop)]
@@ -28,11 +28,11 @@ impl Cause {
     /// That of a verdict, with the name of a fault or a denial.
     pub fn of(verdict: &str, name: &str) -> Cause {
         match verdict {
-            "refused" => match place_of(&REFUSALS, name) {
+            "refused" => match place_of(refusals(), name) {
                 Some(place) => Cause::Refused(place),
                 None => Cause::None,
             },
-            "denied" => match place_of(&DENIALS, name) {
+            "denied" => match place_of(denials(), name) {
                 Some(place) => Cause::Denied(place),
                 None => Cause::None,
             },
@@ -43,8 +43,8 @@ impl Cause {
     /// The name and the sentences of the fault or the denial of a token.
     pub(crate) fn row(self) -> Option<(&'static str, &'static str)> {
         match self {
-            Cause::Refused(place) => REFUSALS.get(place).copied(),
-            Cause::Denied(place) => DENIALS.get(place).copied(),
+            Cause::Refused(place) => refusals().get(place).copied(),
+            Cause::Denied(place) => denials().get(place).copied(),
             Cause::None | Cause::Remedied => None,
         }
     }

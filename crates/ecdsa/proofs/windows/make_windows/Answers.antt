@@ -22,8 +22,8 @@ rows-init g c =
     let path : c.at-whole.result ≡ get_or ps (n - 0) [] = c.at-whole.ensures ∙ ap₂ (λ l k. get_or l k []) c.as_slice.ensures.value same in
     record {
       below = c.in-Some-inverse.ensures.below;
-      xs_long = ap length c.new-xs.ensures.items;
-      ys_long = ap length c.new-ys.ensures.items;
+      xs_long = ap length c.in_ok-xs.ensures.items;
+      ys_long = ap length c.in_ok-ys.ensures.items;
       inverted = subst (λ a. (value f a * value f first) % m ≡ 1) path (has_some m (value f c.at-whole.result) (value f first) f.above c.in-Some-inverse.ensures.value);
       x = λ k below. absurd (omega arith);
       y = λ k below. absurd (omega arith);

@@ -12,16 +12,16 @@ use Rattle.ecdsa.proofs.windows.rough_windows.Goals as goal
 pub rows-init : goal.rows-init
 rows-init g c =
     let f = c.args.curve.now.field in
-    let none = ap length c.new-products.ensures.items in
+    let none = ap length c.in_ok-products.ensures.items in
     record {
       double_below = c.requires.p;
       product_below = c.one-product.ensures.below;
-      rows = no_rows f c.new-xs.result.items c.new-ys.result.items c.new-zs.result.items (ap length c.new-xs.ensures.items) (ap length c.new-ys.ensures.items) (ap length c.new-zs.ensures.items);
+      rows = no_rows f c.in_ok-xs.xs.items c.in_ok-ys.ys.items c.in_ok-zs.zs.items (ap length c.in_ok-xs.ensures.items) (ap length c.in_ok-ys.ensures.items) (ap length c.in_ok-zs.ensures.items);
       chained = record {
-        long = one_longer c.new-products.result.items c.push.new.self.items c.one-product.result 0 none c.in_ok-push.ensures.items;
+        long = one_longer c.in_ok-products.products.items c.push.new.self.items c.one-product.result 0 none c.in_ok-push.ensures.items;
         each = λ k below. absurd (omega arith);
       };
-      last = ap (λ l. get_or l 0 []) c.in_ok-push.ensures.items ∙ get_or_push c.new-products.result.items c.one-product.result [] 0 none;
+      last = ap (λ l. get_or l 0 []) c.in_ok-push.ensures.items ∙ get_or_push c.in_ok-products.products.items c.one-product.result [] 0 none;
       stands = λ P at. subst (λ o. AreFor (size f) (value f c.args.p.x) (value f c.args.p.y) (value f c.args.p.z) o) (doubled_none (domain c.args.curve.now) P) at;
       rough = λ P at k below some. absurd (omega arith);
     }

@@ -1,6 +1,6 @@
 use Rattle.std.proofs.Common.{◌≡◌, ◌≤◌, ◌<◌, ◌+◌, ◌*◌, ◌++◌, length, length-append, take, drop, sym, ap, ◌∙◌, arith}
 use Rattle.std.proofs.Math.Nat.{mul-le-mul_left}
-use Rattle.jwt_rsa.specs.Hashing.{digest_size}
+use Rattle.jwt_mac.specs.Algorithm.{octets_of}
 use Rattle.jwt_rsa.specs.Pss.{xored, mgf1_blocks}
 use Rattle.std.specs.Int.{div_ceil}
 use Rattle.jwt_rsa.proofs.Masks.{block_more, blocks_all, next_blocks, ceil_below, ceil_above}
@@ -14,8 +14,8 @@ counters-preserved c =
     let count = c.counters.counter in
     let end = c.min-end.result in
     let digest = c.octets.result.now in
-    let before : count * c.size-size.result < length os = ceil_below (length os) c.size-size.result count (omega arith) (omega arith) in
-    let least : count * 32 ≤ count * c.size-size.result = mul-le-mul_left count c.size-size.ensures.range.0 in
+    let before : count * c.octets-size.result < length os = ceil_below (length os) c.octets-size.result count (omega arith) (omega arith) in
+    let least : count * 32 ≤ count * c.octets-size.result = mul-le-mul_left count c.octets-size.ensures.range.0 in
     let size : length (mgf1_blocks hash seed count) ≡ c.counters.start = omega (arith, c.counters.invariant.size) in
     let next : mgf1_blocks hash seed count ++ digest ≡ mgf1_blocks hash seed (count + 1) =
     next_blocks hash seed digest count (omega arith) (c.octets.ensures.is ∙ c.digest-digest.ensures.is) in
@@ -31,7 +31,7 @@ counters-preserved c =
 pub returns : goal.returns
 returns c =
     let os = c.args.octets.now in
-    let past : length os ≤ c.counters.counter * c.size-size.result = ceil_above (length os) c.size-size.result c.counters.counter (omega arith) (omega arith) in
-    let count : c.counters.counter ≡ div_ceil (length os) (digest_size c.args.hash) =
-    omega arith ∙ ap (λ k. div_ceil (length os) k) c.size-size.ensures.is in
+    let past : length os ≤ c.counters.counter * c.octets-size.result = ceil_above (length os) c.octets-size.result c.counters.counter (omega arith) (omega arith) in
+    let count : c.counters.counter ≡ div_ceil (length os) (octets_of c.args.hash) =
+    omega arith ∙ ap (λ k. div_ceil (length os) k) c.octets-size.ensures.is in
     blocks_all c.args.hash c.counters.octets os c.args.seed.now c.counters.start c.counters.counter (omega arith) c.counters.invariant.written count

@@ -1,36 +1,5 @@
-use Rattle.std.proofs.Common.{refl, subst}
-use Rattle.jwt_possession.specs.declared.once.once.Taken.{Taken}
-use Rattle.jwt_service.specs.Taking.{IsEntryTaken}
-use Rattle.jwt_service.proofs.Tests.{is_so, not_so}
+use Rattle.std.proofs.Common.{map}
 use Rattle.jwt_service.proofs.admitting.admit.Goals as goal
 
-pub returns-then-not-is_new : goal.returns-then-not-is_new
-returns-then-not-is_new g c = record {
-  passed = c.in-Ok.passed;
-  holds = c.in-Ok.ensures;
-  proof = c.take-proof.ensures;
-  is_old = not_so c.is_new.result c.is_new.ensures c.if-not-is_new.true;
-  untouched = refl;
-}
-
-pub returns-then-not-is_new-2 : goal.returns-then-not-is_new-2
-returns-then-not-is_new-2 g c = record {
-  passed = c.in-Ok.passed;
-  holds = c.in-Ok.ensures;
-  its_scheme = refl;
-  proof = subst (λ (t : Taken). IsEntryTaken c.in-Ok.passed.proof c.args.call.now c.args.books.now.proofs t c.take-proof.new.memory)
-      (is_so c.is_new.result c.is_new.ensures c.if-not-is_new.false) c.take-proof.ensures;
-  token = c.take-token.ensures;
-  is_old = not_so c.is_new-2.result c.is_new-2.ensures c.if-not-is_new-2.true;
-}
-
 pub returns : goal.returns
-returns g c = record {
-  passed = c.in-Ok.passed;
-  holds = c.in-Ok.ensures;
-  its_claims = refl;
-  proof = subst (λ (t : Taken). IsEntryTaken c.in-Ok.passed.proof c.args.call.now c.args.books.now.proofs t c.take-proof.new.memory)
-      (is_so c.is_new.result c.is_new.ensures c.if-not-is_new.false) c.take-proof.ensures;
-  token = subst (λ (t : Taken). IsEntryTaken c.in-Ok.passed.token c.args.call.now c.args.books.now.tokens t c.take-token.new.memory)
-      (is_so c.is_new-2.result c.is_new-2.ensures c.if-not-is_new-2.false) c.take-token.ensures;
-}
+returns g c = c.admission.ensures c.args.service.now (map (λ b. (goal.Verifier-dyn g (b.vtable, b.value)).meaning b.value) c.args.verifiers.now) c.decide-decision.ensures
