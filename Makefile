@@ -15,7 +15,7 @@
 #   make wasm                        builds build/wasm/fowharimu.wasm and program.wasm, the library and the program as WebAssembly, over what is proved
 #                                    (bindings/wasm/README.md)
 #   make page                        builds build/fowharimu.html, a page that looks at tokens (bindings/page/README.md)
-#   make drawn                       draws anew what is drawn of tables: of faults (gate/faults.txt), of options, of crates (crates.txt), of costs, and lists of files in specs/ and proofs/
+#   make drawn                       draws anew what is drawn of tables: of faults (gate/faults.txt), of options, of crates (crates.txt), of costs and of texts (docs/pictures), and lists of files in specs/ and proofs/
 #   make nginx                       builds build/nginx/ngx_http_fowharimu_module.so (Debian: nginx-dev)
 #   make nginx-install DESTDIR=      installs it where Debian's nginx looks for modules, with the endpoint for other gateways
 PREFIX ?= /usr/local
@@ -214,6 +214,7 @@ drawn:
 	gate/faults.py --write
 	gate/options.py --write
 	bench/picture
+	docs/pictures/draw
 	printf '//! The version of the program, and the kit that proves it, drawn by `make drawn`.\n\n/// What `jwt --version` prints.\npub const VERSION: &str = "jwt %s, proved with %s";\n' '$(VERSION)' "$$(rt version)" > crates/jwt_command/src/version.rt
 
 SECONDS = 20
