@@ -1,3 +1,4 @@
+use crate::asserted::holds;
 use crate::read::{claims_of, policy_of};
 use jwt_possession::once::{Entry, Lack, Once, Taken, Times, entry_of, owner_of};
 use std::alloc::Global;
@@ -10,65 +11,103 @@ fn memory(alloc: Global, room: usize) -> Result<Once, Fail> {
     Ok(Once::new(alloc, room, 0, room))
 }
 
-/// The times of something of this moment that is accepted no later, and was issued at any moment.
-fn until(moment: u64) -> Times {
-    Times {
-        moment,
-        grace: 0,
-        issued: 0,
+/// A token that comes: its issuer, its `jti`, whose it is (`s` or `t` of its issuer, or nobody's), its moment, its grace, when it was issued, when it comes, and what is
+/// answered.
+type Step = (
+    &'static str,
+    &'static str,
+    Option<&'static str>,
+    u64,
+    u64,
+    u64,
+    u64,
+    Taken,
+);
+
+/// The number of the first step that is answered in another way.
+fn first_other(once: &mut Once, steps: &[Step]) -> Option<usize> {
+    for (number, &(issuer, jti, owner, moment, grace, issued, now, wanted)) in steps
+        .iter()
+        .enumerate()
+    {
+        let owner = match owner {
+            Some(name) => Some(owner_of(issuer.as_bytes(), name.as_bytes())),
+            None => None,
+        };
+        let times = Times {
+            moment,
+            grace,
+            issued,
+        };
+        if once.take(issuer.as_bytes(), jti.as_bytes(), owner, times, now) != wanted {
+            return Some(number);
+        }
     }
+    None
 }
 
-/// The same of something that was issued at this moment.
-fn issued(issued: u64) -> Times {
-    Times {
-        moment: 10,
-        grace: 0,
-        issued,
-    }
-}
+static TAKEN_ONCE: [Step; 9] = [
+    ("i", "a", None, 10, 0, 0, 5, Taken::New),
+    ("i", "a", None, 10, 0, 0, 10, Taken::Seen),
+    ("j", "a", None, 12, 0, 0, 10, Taken::New),
+    ("ia", "", None, 12, 0, 0, 10, Taken::Full),
+    ("ia", "", None, 12, 0, 0, 11, Taken::New),
+    ("i", "a", None, 10, 0, 0, 9, Taken::Late),
+    ("i", "a", None, 11, 0, 0, 11, Taken::Full),
+    ("j", "a", None, 12, 0, 0, 0, Taken::Seen),
+    ("j", "a", None, 14, 0, 0, 13, Taken::Seen),
+];
 
 #[test]
 fn a_token_is_taken_once(rt: HostRuntime) -> Result<(), Fail> {
     let mut once = memory(rt.alloc(), 2)?;
-    assert_eq!(rt; once.take(b"i", b"a", None, until(10), 5), Taken::New);
-    assert_eq!(rt; once.take(b"i", b"a", None, until(10), 10), Taken::Seen);
-    assert_eq!(rt; once.take(b"j", b"a", None, until(12), 10), Taken::New);
-    assert_eq!(rt; once.take(b"ia", b"", None, until(12), 10), Taken::Full);
-    assert_eq!(rt; once.take(b"ia", b"", None, until(12), 11), Taken::New);
-    assert_eq!(rt; once.take(b"i", b"a", None, until(10), 9), Taken::Late);
-    assert_eq!(rt; once.take(b"i", b"a", None, until(11), 11), Taken::Full);
-    assert_eq!(rt; once.take(b"j", b"a", None, until(12), 0), Taken::Seen);
-    assert_eq!(rt; once.take(b"j", b"a", None, until(14), 13), Taken::Seen);
-    assert!(rt; once.len() <= 2);
+    holds(&rt, first_other(&mut once, &TAKEN_ONCE).is_none());
+    holds(&rt, once.len() <= 2);
     Ok(())
 }
+
+static LET_GO: [Step; 4] = [
+    ("i", "a", None, 10, 0, 0, 5, Taken::New),
+    ("i", "b", None, 20, 0, 0, 11, Taken::New),
+    ("i", "a", None, 10, 300, 0, 11, Taken::Late),
+    ("i", "c", None, 10, 300, 0, 11, Taken::Late),
+];
+
+static HELD_FOR_LONGER: [Step; 3] = [
+    ("i", "a", None, 10, 300, 0, 5, Taken::New),
+    ("i", "b", None, 20, 0, 0, 11, Taken::New),
+    ("i", "a", None, 10, 300, 0, 310, Taken::Seen),
+];
+
+static ISSUED_BEFORE: [Step; 2] = [
+    ("i", "a", None, 10, 0, 5, 7, Taken::Late),
+    ("i", "a", None, 10, 0, 6, 7, Taken::New),
+];
 
 /// What was let go isn't new to who accepts it for longer, and what was issued before the memory was opened isn't new at all.
 #[test]
 fn what_was_let_go_is_late_to_everybody(rt: HostRuntime) -> Result<(), Fail> {
     let alloc = rt.alloc();
-    let longer = Times {
-        moment: 10,
-        grace: 300,
-        issued: 0,
-    };
     let mut once = memory(alloc, 2)?;
-    assert_eq!(rt; once.take(b"i", b"a", None, until(10), 5), Taken::New);
-    assert_eq!(rt; once.take(b"i", b"b", None, until(20), 11), Taken::New);
-    assert_eq!(rt; once.len(), 1);
-    assert_eq!(rt; once.take(b"i", b"a", None, longer, 11), Taken::Late);
-    assert_eq!(rt; once.take(b"i", b"c", None, longer, 11), Taken::Late);
+    holds(&rt, first_other(&mut once, &LET_GO).is_none());
+    holds(&rt, once.len() == 1);
     let mut once = memory(alloc, 2)?;
-    assert_eq!(rt; once.take(b"i", b"a", None, longer, 5), Taken::New);
-    assert_eq!(rt; once.take(b"i", b"b", None, until(20), 11), Taken::New);
-    assert_eq!(rt; once.take(b"i", b"a", None, longer, 310), Taken::Seen);
+    holds(&rt, first_other(&mut once, &HELD_FOR_LONGER).is_none());
     let room = NonZeroUsize::new(2).ok_or("no room")?;
     let mut once = Once::new(alloc, room, 6, room);
-    assert_eq!(rt; once.take(b"i", b"a", None, issued(5), 7), Taken::Late);
-    assert_eq!(rt; once.take(b"i", b"a", None, issued(6), 7), Taken::New);
+    holds(&rt, first_other(&mut once, &ISSUED_BEFORE).is_none());
     Ok(())
 }
+
+static BY_OWNERS: [Step; 7] = [
+    ("i", "a", Some("s"), 10, 0, 0, 5, Taken::New),
+    ("i", "b", Some("s"), 12, 0, 0, 5, Taken::New),
+    ("i", "c", Some("s"), 14, 0, 0, 5, Taken::OwnFull),
+    ("i", "d", Some("t"), 14, 0, 0, 5, Taken::New),
+    ("i", "e", Some("t"), 14, 0, 0, 5, Taken::Full),
+    ("i", "f", None, 14, 0, 0, 5, Taken::Full),
+    ("i", "c", Some("s"), 14, 0, 0, 11, Taken::New),
+];
 
 /// Who has a share is told so, and nobody else is kept out by it.
 #[test]
@@ -76,19 +115,9 @@ fn nobody_has_more_than_a_share(rt: HostRuntime) -> Result<(), Fail> {
     let room = NonZeroUsize::new(3).ok_or("no room")?;
     let share = NonZeroUsize::new(2).ok_or("no share")?;
     let mut once = Once::new(rt.alloc(), room, 0, share);
-    let (one, two) = (owner_of(b"i", b"s"), owner_of(b"i", b"t"));
-    assert_eq!(rt; once.take(b"i", b"a", Some(one), until(10), 5), Taken::New);
-    assert_eq!(rt; once.take(b"i", b"b", Some(one), until(12), 5), Taken::New);
-    assert_eq!(rt;
-        once.take(b"i", b"c", Some(one), until(14), 5),
-        Taken::OwnFull
-    );
-    assert_eq!(rt; once.take(b"i", b"d", Some(two), until(14), 5), Taken::New);
-    assert_eq!(rt; once.take(b"i", b"e", Some(two), until(14), 5), Taken::Full);
-    assert_eq!(rt; once.take(b"i", b"f", None, until(14), 5), Taken::Full);
-    assert_eq!(rt; once.take(b"i", b"c", Some(one), until(14), 11), Taken::New);
-    assert_eq!(rt; once.len_of(&one), 2);
-    assert_eq!(rt; once.len_of(&two), 1);
+    holds(&rt, first_other(&mut once, &BY_OWNERS).is_none());
+    holds(&rt, once.len_of(&owner_of(b"i", b"s")) == 2);
+    holds(&rt, once.len_of(&owner_of(b"i", b"t")) == 1);
     Ok(())
 }
 
@@ -99,7 +128,12 @@ fn a_refused_growth_takes_no_token(rt: HostRuntime) -> Result<(), Fail> {
     let owner = Some(owner_of(b"i", b"s"));
     for jti in [&b"a"[..], b"b", b"c"].iter() {
         let before = once.len();
-        let taken = once.take(b"i", jti, owner, until(10), 5);
+        let times = Times {
+            moment: 10,
+            grace: 0,
+            issued: 0,
+        };
+        let taken = once.take(b"i", jti, owner, times, 5);
         let is_held = taken == Taken::New;
         assert!(rt; is_held || taken == Taken::OutOfMemory);
         assert_eq!(rt; once.len() > before, is_held);
@@ -141,12 +175,13 @@ static STEPS: [(&str, i64, Result<Taken, Lack>); 11] = [
     (FIRST, 100, Ok(Taken::Late)),
 ];
 
-/// The number of the first step that goes another way. Before the ninth two tokens are held.
-fn unmet(alloc: Global, once: &mut Once) -> Result<Option<usize>, Fail> {
-    for (number, &(claims, now, wanted)) in STEPS.iter().enumerate() {
-        if number == 8 && once.len() != 2 {
-            return Ok(Some(number));
-        }
+/// The number of the first of these that is answered in another way.
+fn first_unmet(
+    alloc: Global,
+    once: &mut Once,
+    steps: &[(&str, i64, Result<Taken, Lack>)],
+) -> Result<Option<usize>, Fail> {
+    for (number, &(claims, now, wanted)) in steps.iter().enumerate() {
         if taken(alloc, once, claims, now)? != wanted {
             return Ok(Some(number));
         }
@@ -157,22 +192,31 @@ fn unmet(alloc: Global, once: &mut Once) -> Result<Option<usize>, Fail> {
 #[test]
 fn an_accepted_token_is_taken_until_its_end(rt: HostRuntime) -> Result<(), Fail> {
     let mut once = memory(rt.alloc(), 9)?;
-    assert_eq!(rt; unmet(rt.alloc(), &mut once)?, None);
+    let (first, last) = STEPS.split_at(8);
+    holds(&rt, first_unmet(rt.alloc(), &mut once, first)?.is_none());
+    holds(&rt, once.len() == 2);
+    holds(&rt, first_unmet(rt.alloc(), &mut once, last)?.is_none());
     Ok(())
 }
+
+const EARLIEST: &str = r#"{"jti":"a","exp":-9223372036854775808}"#;
+
+const ACROSS: &str = r#"{"jti":"b","exp":-20}"#;
+
+static EARLY: [(&str, i64, Result<Taken, Lack>); 5] = [
+    (EARLIEST, i64::MIN, Ok(Taken::New)),
+    (EARLIEST, -1, Ok(Taken::Seen)),
+    (ACROSS, -30, Ok(Taken::New)),
+    (ACROSS, 60, Ok(Taken::Seen)),
+    (ACROSS, 61, Ok(Taken::Late)),
+];
 
 /// Before 1970 each moment is the same one.
 #[test]
 fn moments_before_1970_are_one(rt: HostRuntime) -> Result<(), Fail> {
     let alloc = rt.alloc();
     let mut once = memory(alloc, 9)?;
-    let early = "{\"jti\":\"a\",\"exp\":-9223372036854775808}";
-    assert_eq!(rt; taken(alloc, &mut once, early, i64::MIN)?, Ok(Taken::New));
-    assert_eq!(rt; taken(alloc, &mut once, early, -1)?, Ok(Taken::Seen));
-    let across = "{\"jti\":\"b\",\"exp\":-20}";
-    assert_eq!(rt; taken(alloc, &mut once, across, -30)?, Ok(Taken::New));
-    assert_eq!(rt; taken(alloc, &mut once, across, 60)?, Ok(Taken::Seen));
-    assert_eq!(rt; taken(alloc, &mut once, across, 61)?, Ok(Taken::Late));
+    holds(&rt, first_unmet(alloc, &mut once, &EARLY)?.is_none());
     Ok(())
 }
 

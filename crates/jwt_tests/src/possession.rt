@@ -1,4 +1,5 @@
 //! Proofs of possession, and certificates.
+use crate::asserted::holds;
 use crate::read::claims_of;
 use jwt_possession::laws::proofs_have_no_fault;
 use jwt_possession::{Binding, Nonces, ProofPolicy, certificate_holds, normal_uri};
@@ -47,7 +48,7 @@ fn a_policy_for_proofs_has_what_proofs_need(rt: HostRuntime) -> Result<(), Fail>
             Ok(_) => "read",
             Err(fault) => fault.name(),
         };
-        assert_eq!(rt; said, wanted, "{document}");
+        holds(&rt, said == wanted);
     }
     Ok(())
 }
@@ -60,23 +61,30 @@ const DER: &[u8] = b"0\x03\x02\x01\x00";
 fn a_token_is_bound_to_a_key_or_a_certificate(rt: HostRuntime) -> Result<(), Fail> {
     let alloc = rt.alloc();
     let free = claims_of(alloc, r#"{"jkt":"a"}"#)?;
-    assert!(rt; !Binding::of(&free).is_bound);
+    holds(&rt, !Binding::of(&free).is_bound);
     let other = claims_of(alloc, r#"{"cnf":{"kid":"a"}}"#)?;
-    assert!(rt; Binding::of(&other).is_bound);
-    assert!(rt; Binding::of(&other).key.is_none() && Binding::of(&other).certificate.is_none());
+    holds(&rt, Binding::of(&other).is_bound);
+    holds(
+        &rt,
+        Binding::of(&other).key.is_none() && Binding::of(&other).certificate.is_none(),
+    );
     let to_key = claims_of(alloc, r#"{"cnf":{"jkt":"a"}}"#)?;
-    assert_eq!(rt; Binding::of(&to_key).key, Some("a"));
-    assert!(rt; !certificate_holds(alloc, &to_key, DER)?);
+    holds(&rt, Binding::of(&to_key).key == Some("a"));
+    holds(&rt, !certificate_holds(alloc, &to_key, DER)?);
     let to_certificate = claims_of(
         alloc,
         r#"{"cnf":{"x5t#S256":"tWCDPW94evRhE7lqrU3VtdGuANzMac8wzJK-1lHFZhc"}}"#,
     )?;
-    assert_eq!(rt;
-        Binding::of(&to_certificate).certificate,
-        Some("tWCDPW94evRhE7lqrU3VtdGuANzMac8wzJK-1lHFZhc")
+    holds(
+        &rt,
+        Binding::of(&to_certificate).certificate
+            == Some("tWCDPW94evRhE7lqrU3VtdGuANzMac8wzJK-1lHFZhc"),
     );
-    assert!(rt; certificate_holds(alloc, &to_certificate, DER)?);
-    assert!(rt; !certificate_holds(alloc, &to_certificate, b"0\x03\x02\x01\x01")?);
+    holds(&rt, certificate_holds(alloc, &to_certificate, DER)?);
+    holds(
+        &rt,
+        !certificate_holds(alloc, &to_certificate, b"0\x03\x02\x01\x01")?,
+    );
     Ok(())
 }
 
@@ -98,11 +106,7 @@ static FORMS: [(&str, Option<&str>); 9] = [
 fn a_uri_has_one_form(rt: HostRuntime) -> Result<(), Fail> {
     for &(uri, wanted) in &FORMS {
         let form = normal_uri(rt.alloc(), uri)?;
-        assert_eq!(rt;
-            form.as_deref(),
-            wanted.map(|text| text.as_bytes()),
-            "{uri}"
-        );
+        holds(&rt, form.as_deref() == wanted.map(|text| text.as_bytes()));
     }
     Ok(())
 }
@@ -163,11 +167,11 @@ fn a_period_has_a_nonce(rt: HostRuntime) -> Result<(), Fail> {
         let Some(nonces) = Nonces::of(secret, period) else {
             return Err(Fail::from("no nonces"));
         };
-        assert_eq!(rt; nonces.at(now).as_slice(), wanted);
+        holds(&rt, nonces.at(now).as_slice() == wanted);
     }
-    assert!(rt; Nonces::of(&SECRET[..31], 300).is_none());
-    assert!(rt; Nonces::of(b"", 300).is_none());
-    assert!(rt; Nonces::of(SECRET, 0).is_none());
+    holds(&rt, Nonces::of(&SECRET[..31], 300).is_none());
+    holds(&rt, Nonces::of(b"", 300).is_none());
+    holds(&rt, Nonces::of(SECRET, 0).is_none());
     Ok(())
 }
 
@@ -204,11 +208,15 @@ fn a_nonce_is_good_for_two_periods(rt: HostRuntime) -> Result<(), Fail> {
         return Err(Fail::from("no nonces"));
     };
     for &(now, wanted) in &MOMENTS {
-        assert_eq!(rt; nonces.accepts(&timely, now), wanted, "{now}");
+        holds(&rt, nonces.accepts(&timely, now) == wanted);
     }
-    assert!(rt; nonces.accepts(&first, -1) && nonces.accepts(&first, 599));
-    assert!(rt;
-        !nonces.accepts(&first, 600) && !nonces.accepts(&listed, 0) && !nonces.accepts(&none, 0)
+    holds(
+        &rt,
+        nonces.accepts(&first, -1) && nonces.accepts(&first, 599),
+    );
+    holds(
+        &rt,
+        !nonces.accepts(&first, 600) && !nonces.accepts(&listed, 0) && !nonces.accepts(&none, 0),
     );
     proofs_have_no_fault();
     Ok(())
@@ -221,12 +229,12 @@ fn algorithms_are_named_with_spaces(rt: HostRuntime) -> Result<(), Fail> {
         return Err(Fail::from("no policy"));
     };
     let mut room = [b'!'; 40];
-    assert_eq!(rt; policy.write_algs(&mut room[..34]), None);
-    assert_eq!(rt; &room[..], [b'!'; 40].as_slice());
-    assert_eq!(rt; policy.write_algs(&mut room), Some(35));
-    assert_eq!(rt;
-        &room[..],
-        b"ES256 ES384 ES512 RS256 PS256 EdDSA!!!!!".as_slice()
+    holds(&rt, policy.write_algs(&mut room[..34]) == None);
+    holds(&rt, &room[..] == [b'!'; 40].as_slice());
+    holds(&rt, policy.write_algs(&mut room) == Some(35));
+    holds(
+        &rt,
+        &room[..] == b"ES256 ES384 ES512 RS256 PS256 EdDSA!!!!!".as_slice(),
     );
     Ok(())
 }

@@ -26,7 +26,7 @@ use std::test::Fail;
 fn each_case_gets_its_report(rt: HostRuntime) -> Result<(), Fail> {
     for cases in tables() {
         let found = first_difference(rt.alloc(), cases);
-        assert_eq!(rt; found.as_deref(), Some(""));
+        holds(&rt, found.as_deref() == Some(""));
     }
     Ok(())
 }
@@ -43,7 +43,7 @@ fn each_ceiling_of_four_keys_gets_its_report(rt: HostRuntime) -> Result<(), Fail
                 ..ACCEPTED
             };
             let found = difference(rt.alloc(), &case);
-            assert_eq!(rt; found.as_deref(), Some(""), "at {ceiling}");
+            holds(&rt, found.as_deref() == Some(""));
         }
     }
     Ok(())
@@ -120,16 +120,12 @@ fn a_source_that_fails_is_a_read_fault(rt: HostRuntime) -> Result<(), Fail> {
     let policy = r#"{"algs":["HS256"],"limit":179}"#;
     for left in 0..180 {
         let run = drip_in(rt.alloc(), policy, TOKEN_A.as_bytes(), left)?;
-        assert_eq!(rt;
-            run.said.as_str(),
-            "Read; tries work 0 calls 0;",
-            "at {left}"
-        );
-        assert_eq!(rt; run.unread, TOKEN_A.len().saturating_sub(left), "at {left}");
+        holds(&rt, run.said.as_str() == "Read; tries work 0 calls 0;");
+        holds(&rt, run.unread == TOKEN_A.len().saturating_sub(left));
     }
     let run = drip_in(rt.alloc(), policy, TOKEN_A.as_bytes(), 180)?;
-    assert_eq!(rt; run.said.as_str(), ACCEPTED.gives);
-    assert_eq!(rt; run.pulls, 180);
+    holds(&rt, run.said.as_str() == ACCEPTED.gives);
+    holds(&rt, run.pulls == 180);
     Ok(())
 }
 
@@ -140,8 +136,8 @@ fn what_follows_one_octet_past_the_limit_is_unread(rt: HostRuntime) -> Result<()
     let token = format!(in rt.alloc(); "{TOKEN_A}{more}")?;
     let policy = r#"{"algs":["HS256"],"limit":178}"#;
     let run = drip_in(rt.alloc(), policy, token.as_bytes(), 2000)?;
-    assert_eq!(rt; run.said.as_str(), "TooLong; tries work 0 calls 0;");
-    assert_eq!(rt; (run.unread, run.pulls), (1000, 179));
+    holds(&rt, run.said.as_str() == "TooLong; tries work 0 calls 0;");
+    holds(&rt, (run.unread, run.pulls) == (1000, 179));
     Ok(())
 }
 
@@ -162,7 +158,7 @@ fn a_token_that_is_cut_is_not_accepted(rt: HostRuntime) -> Result<(), Fail> {
     for n in 0..TOKEN_A.len() {
         let token = &TOKEN_A.as_bytes()[..n];
         let said = judged_case(rt.alloc(), token, &ACCEPTED, &[], Counts::Up);
-        assert_eq!(rt; said.as_deref(), Some(wanted_of(n)), "at {n}");
+        holds(&rt, said.as_deref() == Some(wanted_of(n)));
     }
     Ok(())
 }
@@ -206,7 +202,7 @@ fn tries_of_read_token(alloc: Global) -> Result<Option<usize>, Fail> {
 /// A token that was read is judged as its octets are.
 #[test]
 fn a_token_that_was_read_is_judged(rt: HostRuntime) -> Result<(), Fail> {
-    assert_eq!(rt; tries_of_read_token(rt.alloc())?, Some(1));
+    holds(&rt, tries_of_read_token(rt.alloc())? == Some(1));
     Ok(())
 }
 
@@ -260,7 +256,7 @@ fn unrefused(alloc: Global) -> Result<Option<usize>, Fail> {
 /// A token with one octet changed is never accepted, and at most one key is tried on it.
 #[test]
 fn a_token_with_one_octet_changed_is_not_accepted(rt: HostRuntime) -> Result<(), Fail> {
-    assert_eq!(rt; unrefused(rt.alloc())?, None);
+    holds(&rt, unrefused(rt.alloc())? == None);
     Ok(())
 }
 
@@ -333,10 +329,7 @@ static PAIRS: [(usize, u64, &str, &str); 3] = [
 fn as_many_pairs_as_there_can_be(rt: HostRuntime) -> Result<(), Fail> {
     for &(count, ceiling, begins, budget) in &PAIRS {
         let said = judged_all_pairs(rt.alloc(), count, ceiling).ok_or("no report")?;
-        assert!(rt;
-            said.starts_with(begins) && said.contains(budget),
-            "{begins}"
-        );
+        holds(&rt, said.starts_with(begins) && said.contains(budget));
         holds(&rt, !said.ends_with("uncounted"));
     }
     Ok(())
@@ -368,10 +361,7 @@ fn judged_kids(alloc: Global, first: &str) -> Option<String> {
 fn keys_of_another_kid_are_not_tried(rt: HostRuntime) -> Result<(), Fail> {
     for &(first, begins, ends) in &KIDS {
         let said = judged_kids(rt.alloc(), first).ok_or("no report")?;
-        assert!(rt;
-            said.starts_with(begins) && said.ends_with(ends),
-            "{begins}"
-        );
+        holds(&rt, said.starts_with(begins) && said.ends_with(ends));
     }
     Ok(())
 }
@@ -386,8 +376,8 @@ fn a_source_that_never_ends_is_too_long(rt: HostRuntime) -> Result<(), Fail> {
     };
     let mut source = Endless::new();
     let said = validated_case(alloc, &mut source, &case, &[], Counts::Up).ok_or("no report")?;
-    assert_eq!(rt; said.as_str(), "TooLong; tries work 0 calls 0;");
-    assert_eq!(rt; source.given, 1_048_577);
+    holds(&rt, said.as_str() == "TooLong; tries work 0 calls 0;");
+    holds(&rt, source.given == 1_048_577);
     Ok(())
 }
 
@@ -435,7 +425,7 @@ fn a_verifier_is_asked_once_for_each_call(rt: HostRuntime) -> Result<(), Fail> {
         "VerifierMemory; tries 0.0:0 work 0 calls 1; Stopped",
     ] {
         let said = said_with(alloc, &case, &all, Handover::Whole, Counts::Up).ok_or("no report")?;
-        assert_eq!(rt; said.as_str(), gives);
+        holds(&rt, said.as_str() == gives);
     }
     Ok(())
 }
