@@ -35,6 +35,8 @@ mod renewal;
 #[cfg(test)]
 mod request;
 #[cfg(test)]
+mod service;
+#[cfg(test)]
 mod small_service;
 #[cfg(test)]
 mod sources;
