@@ -33,22 +33,26 @@ fn call<'x>(authorizations: &'x [&'x [u8]]) -> Call<'x> {
     }
 }
 
-/// A service that takes tokens of this issuer, each once.
-fn service_of<'x>(policy: &'x Policy, keys: &'x KeySet, once: bool) -> Service<'x> {
+/// A service that takes tokens of this issuer, each once where that is asked.
+fn service_of<'x>(policy: &'x Policy, keys: &'x KeySet, is_once: bool) -> Service<'x> {
     Service {
         earliest: 0,
-        once,
+        once: is_once,
         ..Service::new(policy, keys)
     }
 }
 
-/// New books, with room for one each.
-fn books(alloc: Global) -> Result<Books, Fail> {
-    let room = NonZeroUsize::new(1).ok_or("no room")?;
-    Ok(Books {
-        proofs: Once::new(alloc, room, 0, room),
-        tokens: Once::new(alloc, room, 0, room),
-    })
+/// A memory with room for one, that is opened at no moment.
+fn once(alloc: Global) -> Once {
+    Once::new(alloc, NonZeroUsize::MIN, 0, NonZeroUsize::MIN)
+}
+
+/// New books of such memories.
+fn books(alloc: Global) -> Books {
+    Books {
+        proofs: once(alloc),
+        tokens: once(alloc),
+    }
 }
 
 /// The word for a refusal.
@@ -102,11 +106,10 @@ fn answers(alloc: Global) -> Result<[(&'static str, u16); 5], Fail> {
     let policy = policy_of(alloc, HS256)?;
     let keys = key_set(alloc, KEY)?;
     let service = service_of(&policy, &keys, true);
-    let mut books = books(alloc)?;
+    let mut books = books(alloc);
     let first = asked(alloc, &service, &mut books);
     let second = asked(alloc, &service, &mut books);
-    let room = NonZeroUsize::new(1).ok_or("no room")?;
-    let mut store = Once::new(alloc, room, 0, room);
+    let mut store = once(alloc);
     Ok([
         first,
         second,
@@ -151,9 +154,7 @@ fn two_requests(alloc: Global) -> usize {
     let Ok(keys) = key_set(alloc, KEY) else {
         return 1;
     };
-    let Ok(mut books) = books(alloc) else {
-        return 2;
-    };
+    let mut books = books(alloc);
     let service = service_of(&policy, &keys, true);
     let (first, _) = asked(alloc, &service, &mut books);
     let (second, _) = asked(alloc, &service, &mut books);
@@ -178,9 +179,8 @@ fn recalled(alloc: Global) -> Result<[(&'static str, bool); 2], Fail> {
     let keys = key_set(alloc, KEY)?;
     let service = service_of(&policy, &keys, false);
     let verifiers: [Box<dyn Verifier>; 0] = [];
-    let mut books = books(alloc)?;
-    let room = NonZeroUsize::new(1).ok_or("no room")?;
-    let mut memory = Memory::new(alloc, room, 4096)?;
+    let mut books = books(alloc);
+    let mut memory = Memory::new(alloc, NonZeroUsize::MIN, 4096)?;
     let call = call(&AUTHORIZATIONS);
     let first = admit_by_memory(alloc, &service, &verifiers, &mut memory, &mut books, &call);
     let second = admit_by_memory(alloc, &service, &verifiers, &mut memory, &mut books, &call);
