@@ -2,8 +2,8 @@
 use crate::asserted::holds;
 use crate::read::policy_of;
 use fowharimu::{
-    Admission, Books, Call, Fault, KeySet, Memory, Once, Policy, Refusal, Service, Taken, Verifier,
-    admit, admit_by_memory, decide,
+    Admission, Books, Call, Fault, KeySet, Memory, Once, Policy, RecalledAdmission, Refusal,
+    Service, Taken, Verifier, admit, admit_by_memory, decide,
 };
 use jwt_support::examples::{HS256, NOW, key_set};
 use std::alloc::Global;
@@ -101,37 +101,39 @@ fn settled(alloc: Global, service: &Service<'_>, store: Option<&mut Once>) -> (&
     (word_of(&admission), admission.reply(service).status)
 }
 
-/// What is answered to the request where its token counts once, time after time: with its status.
-fn answers(alloc: Global) -> Result<[(&'static str, u16); 5], Fail> {
+/// Whether this is what is answered.
+fn is_so(answer: (&'static str, u16), word: &str, status: u16) -> bool {
+    answer.0 == word && answer.1 == status
+}
+
+/// Whether one request is let through of those with a token that counts once: by the memory of the library, and by a store in its place; and none where no store answers.
+fn is_let_through_once(alloc: Global) -> Result<bool, Fail> {
     let policy = policy_of(alloc, HS256)?;
     let keys = key_set(alloc, KEY)?;
     let service = service_of(&policy, &keys, true);
     let mut books = books(alloc);
-    let first = asked(alloc, &service, &mut books);
-    let second = asked(alloc, &service, &mut books);
     let mut store = once(alloc);
-    Ok([
-        first,
-        second,
-        settled(alloc, &service, Some(&mut store)),
-        settled(alloc, &service, Some(&mut store)),
-        settled(alloc, &service, None),
-    ])
+    Ok(
+        is_so(asked(alloc, &service, &mut books), "let through", 200)
+            && is_so(asked(alloc, &service, &mut books), "used before", 401)
+            && is_so(
+                settled(alloc, &service, Some(&mut store)),
+                "let through",
+                200,
+            )
+            && is_so(
+                settled(alloc, &service, Some(&mut store)),
+                "used before",
+                401,
+            )
+            && is_so(settled(alloc, &service, None), "not asked", 500),
+    )
 }
-
-/// Those that are wanted: by the memory of the library, by a store in its place, and where no store answers.
-const ANSWERS: [(&str, u16); 5] = [
-    ("let through", 200),
-    ("used before", 401),
-    ("let through", 200),
-    ("used before", 401),
-    ("not asked", 500),
-];
 
 /// A token that counts once lets one request through, by whatever is asked whether it is new, and none where nobody answers.
 #[test]
 fn a_token_lets_one_request_through(rt: HostRuntime) -> Result<(), Fail> {
-    holds(&rt, answers(rt.alloc())? == ANSWERS);
+    holds(&rt, is_let_through_once(rt.alloc())?);
     Ok(())
 }
 
@@ -173,8 +175,13 @@ fn a_refused_growth_uses_no_token_up(rt: HostRuntime) -> Result<(), Fail> {
     Ok(())
 }
 
-/// Of two requests with one token, what is answered to each, and whether the verdict was remembered.
-fn recalled(alloc: Global) -> Result<[(&'static str, bool); 2], Fail> {
+/// Whether the request is let through, and its verdict was remembered or not.
+fn is_let_through(recalled: &RecalledAdmission<'_>, remembered: bool) -> bool {
+    word_of(&recalled.admission) == "let through" && recalled.remembered == remembered
+}
+
+/// Whether of two requests with one token both are let through, and the second is remembered.
+fn is_remembered(alloc: Global) -> Result<bool, Fail> {
     let policy = policy_of(alloc, HS256)?;
     let keys = key_set(alloc, KEY)?;
     let service = service_of(&policy, &keys, false);
@@ -184,16 +191,12 @@ fn recalled(alloc: Global) -> Result<[(&'static str, bool); 2], Fail> {
     let call = call(&AUTHORIZATIONS);
     let first = admit_by_memory(alloc, &service, &verifiers, &mut memory, &mut books, &call);
     let second = admit_by_memory(alloc, &service, &verifiers, &mut memory, &mut books, &call);
-    Ok([
-        (word_of(&first.admission), first.remembered),
-        (word_of(&second.admission), second.remembered),
-    ])
+    Ok(is_let_through(&first, false) && is_let_through(&second, true))
 }
 
 /// No clause says that anything is ever remembered.
 #[test]
 fn the_verdict_on_a_token_that_comes_again_is_remembered(rt: HostRuntime) -> Result<(), Fail> {
-    let wanted = [("let through", false), ("let through", true)];
-    holds(&rt, recalled(rt.alloc())? == wanted);
+    holds(&rt, is_remembered(rt.alloc())?);
     Ok(())
 }
