@@ -48,7 +48,7 @@ fn a_policy_for_proofs_has_what_proofs_need(rt: HostRuntime) -> Result<(), Fail>
             Ok(_) => "read",
             Err(fault) => fault.name(),
         };
-        holds(&rt, said == wanted);
+        assert_eq!(rt; said, wanted, "{document}");
     }
     Ok(())
 }
@@ -106,7 +106,11 @@ static FORMS: [(&str, Option<&str>); 9] = [
 fn a_uri_has_one_form(rt: HostRuntime) -> Result<(), Fail> {
     for &(uri, wanted) in &FORMS {
         let form = normal_uri(rt.alloc(), uri)?;
-        holds(&rt, form.as_deref() == wanted.map(|text| text.as_bytes()));
+        assert_eq!(rt;
+            form.as_deref(),
+            wanted.map(|text| text.as_bytes()),
+            "{uri}"
+        );
     }
     Ok(())
 }
@@ -208,7 +212,7 @@ fn a_nonce_is_good_for_two_periods(rt: HostRuntime) -> Result<(), Fail> {
         return Err(Fail::from("no nonces"));
     };
     for &(now, wanted) in &MOMENTS {
-        holds(&rt, nonces.accepts(&timely, now) == wanted);
+        assert_eq!(rt; nonces.accepts(&timely, now), wanted, "{now}");
     }
     holds(
         &rt,

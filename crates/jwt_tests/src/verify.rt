@@ -43,7 +43,7 @@ fn each_ceiling_of_four_keys_gets_its_report(rt: HostRuntime) -> Result<(), Fail
                 ..ACCEPTED
             };
             let found = difference(rt.alloc(), &case);
-            holds(&rt, found.as_deref() == Some(""));
+            assert_eq!(rt; found.as_deref(), Some(""), "at {ceiling}");
         }
     }
     Ok(())
@@ -120,8 +120,12 @@ fn a_source_that_fails_is_a_read_fault(rt: HostRuntime) -> Result<(), Fail> {
     let policy = r#"{"algs":["HS256"],"limit":179}"#;
     for left in 0..180 {
         let run = drip_in(rt.alloc(), policy, TOKEN_A.as_bytes(), left)?;
-        holds(&rt, run.said.as_str() == "Read; tries work 0 calls 0;");
-        holds(&rt, run.unread == TOKEN_A.len().saturating_sub(left));
+        assert_eq!(rt;
+            run.said.as_str(),
+            "Read; tries work 0 calls 0;",
+            "at {left}"
+        );
+        assert_eq!(rt; run.unread, TOKEN_A.len().saturating_sub(left), "at {left}");
     }
     let run = drip_in(rt.alloc(), policy, TOKEN_A.as_bytes(), 180)?;
     holds(&rt, run.said.as_str() == ACCEPTED.gives);
@@ -158,7 +162,7 @@ fn a_token_that_is_cut_is_not_accepted(rt: HostRuntime) -> Result<(), Fail> {
     for n in 0..TOKEN_A.len() {
         let token = &TOKEN_A.as_bytes()[..n];
         let said = judged_case(rt.alloc(), token, &ACCEPTED, &[], Counts::Up);
-        holds(&rt, said.as_deref() == Some(wanted_of(n)));
+        assert_eq!(rt; said.as_deref(), Some(wanted_of(n)), "at {n}");
     }
     Ok(())
 }
@@ -329,7 +333,10 @@ static PAIRS: [(usize, u64, &str, &str); 3] = [
 fn as_many_pairs_as_there_can_be(rt: HostRuntime) -> Result<(), Fail> {
     for &(count, ceiling, begins, budget) in &PAIRS {
         let said = judged_all_pairs(rt.alloc(), count, ceiling).ok_or("no report")?;
-        holds(&rt, said.starts_with(begins) && said.contains(budget));
+        assert!(rt;
+            said.starts_with(begins) && said.contains(budget),
+            "{begins}"
+        );
         holds(&rt, !said.ends_with("uncounted"));
     }
     Ok(())
@@ -361,7 +368,10 @@ fn judged_kids(alloc: Global, first: &str) -> Option<String> {
 fn keys_of_another_kid_are_not_tried(rt: HostRuntime) -> Result<(), Fail> {
     for &(first, begins, ends) in &KIDS {
         let said = judged_kids(rt.alloc(), first).ok_or("no report")?;
-        holds(&rt, said.starts_with(begins) && said.ends_with(ends));
+        assert!(rt;
+            said.starts_with(begins) && said.ends_with(ends),
+            "{begins}"
+        );
     }
     Ok(())
 }
