@@ -26,7 +26,7 @@ use std::test::Fail;
 fn each_case_gets_its_report(rt: HostRuntime) -> Result<(), Fail> {
     for cases in tables() {
         let found = first_difference(rt.alloc(), cases);
-        holds(&rt, found.as_deref() == Some(""));
+        assert_eq!(rt; found.as_deref(), Some(""));
     }
     Ok(())
 }
@@ -128,8 +128,8 @@ fn a_source_that_fails_is_a_read_fault(rt: HostRuntime) -> Result<(), Fail> {
         assert_eq!(rt; run.unread, TOKEN_A.len().saturating_sub(left), "at {left}");
     }
     let run = drip_in(rt.alloc(), policy, TOKEN_A.as_bytes(), 180)?;
-    holds(&rt, run.said.as_str() == ACCEPTED.gives);
-    holds(&rt, run.pulls == 180);
+    assert_eq!(rt; run.said.as_str(), ACCEPTED.gives);
+    assert_eq!(rt; run.pulls, 180);
     Ok(())
 }
 
@@ -140,8 +140,8 @@ fn what_follows_one_octet_past_the_limit_is_unread(rt: HostRuntime) -> Result<()
     let token = format!(in rt.alloc(); "{TOKEN_A}{more}")?;
     let policy = r#"{"algs":["HS256"],"limit":178}"#;
     let run = drip_in(rt.alloc(), policy, token.as_bytes(), 2000)?;
-    holds(&rt, run.said.as_str() == "TooLong; tries work 0 calls 0;");
-    holds(&rt, (run.unread, run.pulls) == (1000, 179));
+    assert_eq!(rt; run.said.as_str(), "TooLong; tries work 0 calls 0;");
+    assert_eq!(rt; (run.unread, run.pulls), (1000, 179));
     Ok(())
 }
 
@@ -206,7 +206,7 @@ fn tries_of_read_token(alloc: Global) -> Result<Option<usize>, Fail> {
 /// A token that was read is judged as its octets are.
 #[test]
 fn a_token_that_was_read_is_judged(rt: HostRuntime) -> Result<(), Fail> {
-    holds(&rt, tries_of_read_token(rt.alloc())? == Some(1));
+    assert_eq!(rt; tries_of_read_token(rt.alloc())?, Some(1));
     Ok(())
 }
 
@@ -260,7 +260,7 @@ fn unrefused(alloc: Global) -> Result<Option<usize>, Fail> {
 /// A token with one octet changed is never accepted, and at most one key is tried on it.
 #[test]
 fn a_token_with_one_octet_changed_is_not_accepted(rt: HostRuntime) -> Result<(), Fail> {
-    holds(&rt, unrefused(rt.alloc())? == None);
+    assert_eq!(rt; unrefused(rt.alloc())?, None);
     Ok(())
 }
 
@@ -386,8 +386,8 @@ fn a_source_that_never_ends_is_too_long(rt: HostRuntime) -> Result<(), Fail> {
     };
     let mut source = Endless::new();
     let said = validated_case(alloc, &mut source, &case, &[], Counts::Up).ok_or("no report")?;
-    holds(&rt, said.as_str() == "TooLong; tries work 0 calls 0;");
-    holds(&rt, source.given == 1_048_577);
+    assert_eq!(rt; said.as_str(), "TooLong; tries work 0 calls 0;");
+    assert_eq!(rt; source.given, 1_048_577);
     Ok(())
 }
 
@@ -435,7 +435,7 @@ fn a_verifier_is_asked_once_for_each_call(rt: HostRuntime) -> Result<(), Fail> {
         "VerifierMemory; tries 0.0:0 work 0 calls 1; Stopped",
     ] {
         let said = said_with(alloc, &case, &all, Handover::Whole, Counts::Up).ok_or("no report")?;
-        holds(&rt, said.as_str() == gives);
+        assert_eq!(rt; said.as_str(), gives);
     }
     Ok(())
 }
