@@ -10,7 +10,7 @@ _jwt() {
         jwk:--new) choices="HS256 HS384 HS512" ;;
         jwk:--alg) choices="HS256 HS384 HS512 RS256 RS384 RS512 PS256 PS384 PS512 ES256 ES384 ES512 EdDSA" ;;
         issue:--form) choices="compact json flattened" ;;
-        verify:--policy | verify:--keys | verify:--token | verify:--access | issue:--keys | jwk:--file | jwk:--secret | policy:--policy | policy:--keys | mac:--key-file)
+        verify:--policy | verify:--keys | verify:--token | verify:--access | issue:--keys | jwk:--file | jwk:--secret | policy:--policy | policy:--keys | policy:--service | mac:--key-file)
             # (so that what is a word of bash within a file's name is quoted)
             compopt -o filenames
             mapfile -t COMPREPLY < <(compgen -f -- "$word")
@@ -28,7 +28,7 @@ _jwt() {
         issue:*) choices="--alg --typ --form --keys" ;;
         jwk:*) choices="--file --der --kid --kid-thumbprint --alg --bare --new --secret --json" ;;
         keys:*) choices="--json" ;;
-        policy:*) choices="--policy --keys --json" ;;
+        policy:*) choices="--policy --keys --service --json" ;;
         mac:*) choices="--k --key-file --limit" ;;
         esac
     fi

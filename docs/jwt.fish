@@ -41,6 +41,7 @@ complete -c jwt -n "__fish_seen_subcommand_from jwk" -l json -d "Prints one JSON
 complete -c jwt -n "__fish_seen_subcommand_from keys" -l json -d "Prints one JSON object on one line"
 complete -c jwt -n "__fish_seen_subcommand_from policy" -l policy -r -F -d "The file of the policy"
 complete -c jwt -n "__fish_seen_subcommand_from policy" -l keys -r -F -d "The file of the key set that goes with it"
+complete -c jwt -n "__fish_seen_subcommand_from policy" -l service -r -F -d "The file of a service document"
 complete -c jwt -n "__fish_seen_subcommand_from policy" -l json -d "Prints one JSON object on one line"
 complete -c jwt -n "__fish_seen_subcommand_from mac" -l k -x -d "The key"
 complete -c jwt -n "__fish_seen_subcommand_from mac" -l key-file -r -F -d "The file of the key"

@@ -62,6 +62,7 @@ _jwt() {
     policy)
         _arguments '--policy[The file of the policy]:file:_files' \
             '--keys[The file of the key set that goes with it]:file:_files' \
+            '--service[The file of a service document]:file:_files' \
             '--json[Prints one JSON object on one line]'
         ;;
     mac)

@@ -2,6 +2,8 @@
 pub mod CostLemmas
 -- ---- For run.rt
 pub mod Printing
+-- ---- For service.rt
+pub mod ServiceLemmas
 -- ---- For verify_lines.rt
 pub mod AnsweredLines
 pub mod RunningLines

@@ -1,5 +1,5 @@
 -- The answer of the command, where that is one.
-use Rattle.std.specs.Prelude.{◌≡◌, ℕ, Bool, List, [], ◌∷◌, unwrap_or}
+use Rattle.std.specs.Prelude.{◌≡◌, ℕ, Bool, List, [], ◌∷◌}
 use Rattle.jwt_mac.specs.Verifying.{Meaning}
 use Rattle.jwt_words.specs.InHand.{Held}
 use Rattle.jwt_command.specs.Issue.{issue_answer}
@@ -32,5 +32,5 @@ IsAnswer built_in held (Issue alg typ form files) failed x a = a ≡ issue_answe
 IsAnswer built_in held Version failed x a = a ≡ version_answer
 IsAnswer built_in held (Jwk order) failed x a = IsJwkAnswer order held.key failed x a
 IsAnswer built_in held (NewSecret order) failed x a = a ≡ secret_answer order.files.key order held
-IsAnswer built_in held (Policy order) failed x a = IsPolicyAnswer order.printing built_in (unwrap_or held.policy []) held.keys a
+IsAnswer built_in held (Policy order) failed x a = IsPolicyAnswer order.printing built_in held a
 IsAnswer built_in held (Pretty order) failed x a = IsShown Lines order.limit failed x a

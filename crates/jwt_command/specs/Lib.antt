@@ -22,7 +22,9 @@ pub mod Lines
 pub mod RunLines
 -- the answer of `jwt jwk`
 pub mod Jwk
--- the status of `jwt policy`, by what it advises, and its answer to a document that is refused
+-- the status of `jwt policy --service`, by what it advises of each issuer
+pub mod Services
+-- the status of `jwt policy`, by what it advises, and its answer to a policy and a key set that are refused
 pub mod Policy
 -- the answer of the command, where that is one
 pub mod Answered

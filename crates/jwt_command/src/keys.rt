@@ -5,7 +5,7 @@ ghost use Rattle.jwt_command.specs.Keys.{IsListed};
 ghost use Rattle.jwt_output.specs.Views.{reply_view};
 
 use crate::documents::{TakenDocument, read_document};
-use crate::subject::{Replied, refused_keys};
+use crate::subject::{Advised, Replied, refused_keys};
 use jwt_advice::{Advice, Note, is_for_signing, is_short, is_small_rsa};
 use jwt_keys::{KeySet, KeysFault};
 use jwt_output::{printed_read_fault, printed_set};
@@ -46,7 +46,7 @@ pub(crate) fn keys<'a, R: Source>(
     };
     match KeySet::read(alloc, input.octets()) {
         Ok(set) => {
-            let notes = weak_keys(alloc, &set)?;
+            let notes = Advised::Notes(weak_keys(alloc, &set)?);
             Ok(Replied::advised(printed_set(alloc, printing, &set)?, notes))
         }
         Err(KeysFault::OutOfMemory) => Err(AllocError),

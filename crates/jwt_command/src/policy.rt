@@ -1,15 +1,17 @@
-//! The command `policy`: what a policy means, alone or with its keys.
+//! The command `policy`: what a policy means, alone or with its keys, and what a service document asks.
 ghost use Rattle.std.specs.Prelude.{◌≡◌, IfOk, map, option_map};
 ghost use Rattle.jwt_keys.specs.KeySets.{key_set, key_set_of};
 ghost use Rattle.jwt_keys.specs.Numbers.{numbers};
 ghost use Rattle.jwt_advice.specs.Findings.{found_alone, found_with};
 ghost use Rattle.jwt_advice.specs.Private.{entries_of, is_private};
 ghost use Rattle.jwt_output.specs.verdicts.Meant.{status_of};
-ghost use Rattle.jwt_command.specs.Policy.{IsMeaning, IsPolicyAnswer, IsWithKeys};
+ghost use Rattle.jwt_command.specs.Policy.{IsDocumentsAnswer, IsMeaning, IsPolicyAnswer, IsWithKeys};
+ghost use Rattle.jwt_words.specs.Seen.{held_view};
 ghost use Rattle.jwt_output.specs.Views.{reply_view};
 
-use crate::documents::TakenDocument;
-use crate::subject::{Replied, refused_keys, refused_policy};
+use crate::documents::{Held, TakenDocument};
+use crate::service::service;
+use crate::subject::{Advised, Replied, refused_keys, refused_policy};
 use jwt_advice::{Findings, private_entries};
 use jwt_keys::{KeySet, KeysFault};
 use jwt_mac::Verifier;
@@ -48,7 +50,7 @@ fn alone<'a>(
     let found = Findings::alone(alloc, read.policy)?;
     let members = members_in(alloc, read.document)?;
     let reply = printed_policy(alloc, printing, &members.lend(), read.policy, &found)?;
-    Ok(Replied::advised(reply, found.notes))
+    Ok(Replied::advised(reply, Advised::Notes(found.notes)))
 }
 
 /// The places of the entries of a key set document that have a private member.
@@ -86,7 +88,7 @@ fn with_set<'a>(
     let found = Findings::with_keys(alloc, read.policy, set.keys, verifiers, places.as_slice())?;
     let members = members_in(alloc, read.document)?;
     let reply = printed_policy(alloc, printing, &members.lend(), read.policy, &found)?;
-    Ok(Replied::advised(reply, found.notes))
+    Ok(Replied::advised(reply, Advised::Notes(found.notes)))
 }
 
 /// A policy with the document of its key set.
@@ -130,16 +132,15 @@ fn meaning_of<'a>(
     }
 }
 
-/// Runs `jwt policy`, in JSON or in lines, on the documents in hand: what a policy means, with the keys of a key set and these verifiers
-/// for public keys, or alone. The policy is looked at first.
-pub(crate) fn policy<'a>(
+/// What a policy means, with the keys of a key set and these verifiers for public keys, or alone. The policy is looked at first.
+fn policy_with<'a>(
     alloc: Global,
     printing: Printing,
     verifiers: &[Box<dyn Verifier>],
     document: &'a [u8],
     keys: Option<&'a [u8]>,
 ) -> Result<Replied<'a>, AllocError>
-    ensures answer { IfOk result (λ a. IsPolicyAnswer printing (map meaning verifiers.now) document.now
+    ensures answer { IfOk result (λ a. IsDocumentsAnswer printing (map meaning verifiers.now) document.now
         (option_map (λ t. t.now) keys.entry) (reply_view a.reply)) }
 {
     match Policy::read(alloc, document) {
@@ -152,5 +153,25 @@ pub(crate) fn policy<'a>(
         }
         Err(PolicyFault::OutOfMemory) => Err(AllocError),
         Err(fault) => refused_policy(alloc, printing, fault, TakenDocument::Held(document)),
+    }
+}
+
+/// Runs `jwt policy`, in JSON or in lines, on the documents in hand: what a service document asks, where one is there, and else what a policy means, with these
+/// verifiers for public keys.
+pub(crate) fn policy<'a>(
+    alloc: Global,
+    printing: Printing,
+    verifiers: &[Box<dyn Verifier>],
+    held: Held<'a>,
+) -> Result<Replied<'a>, AllocError>
+    ensures answer { IfOk result (λ a. IsPolicyAnswer printing (map meaning verifiers.now)
+        (held_view held.entry) (reply_view a.reply)) }
+{
+    match held.key {
+        Some(document) => service(alloc, printing, verifiers, document),
+        None => {
+            let document = held.policy.unwrap_or(&[]);
+            policy_with(alloc, printing, verifiers, document, held.keys)
+        }
     }
 }

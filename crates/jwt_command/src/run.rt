@@ -194,10 +194,7 @@ fn reply_to<'a, R: Source>(
         }
         Command::Jwk(order) => Ok(Replied::bare(jwk(alloc, order, held.key, r)?)),
         Command::NewSecret(order) => Ok(Replied::bare(secret(alloc, order, held)?)),
-        Command::Policy(order) => {
-            let document = held.policy.unwrap_or(&[]);
-            policy(alloc, order.printing, at_hand.built_in, document, held.keys)
-        }
+        Command::Policy(order) => policy(alloc, order.printing, at_hand.built_in, held),
         Command::Version => Ok(Replied::bare(version_line(alloc)?)),
     }
 }

@@ -1,17 +1,19 @@
 //! The document that a command refuses.
-ghost use Rattle.std.specs.Prelude.{◌≡◌, IfErr, IfOk};
+ghost use Rattle.std.specs.Prelude.{◌≡◌, ◌≢◌, IfErr, IfOk};
 ghost use Rattle.jwt_output.specs.Printed.{Prints, out_of_memory};
 ghost use Rattle.jwt_output.specs.Refused.{printed_access_fault, printed_keys_fault, printed_policy_fault};
 ghost use Rattle.jwt_output.specs.Views.{reply_view};
 
 use crate::documents::TakenDocument;
 use jwt_access::AccessFault;
-use jwt_advice::Note;
+use jwt_advice::{Findings, Note};
+use jwt_document::ServiceFault;
 use jwt_jws::FormFault;
 use jwt_keys::KeysFault;
 use jwt_output::reasons::Cause;
 use jwt_output::{
-    Reply, give, lack_memory, printed_access_fault, printed_keys_fault, printed_policy_fault, send,
+    Reply, give, lack_memory, printed_access_fault, printed_keys_fault, printed_policy_fault,
+    printed_service_fault, send,
 };
 use jwt_policy::PolicyFault;
 use jwt_settings::Printing;
@@ -31,8 +33,24 @@ pub enum Subject<'a> {
     /// The access rule.
     Access(AccessFault, TakenDocument<'a>),
 
+    /// The service document.
+    Service(ServiceFault, TakenDocument<'a>),
+
     /// The token, which is refused or denied, with the fault of its form, if that is why.
     Token(Option<FormFault>, TakenDocument<'a>),
+}
+
+/// What a run advises.
+#[derive(Drop)]
+pub enum Advised {
+    /// Nothing, and nobody has asked.
+    Nothing,
+
+    /// What `policy` advises of a policy, and of `keys` the advice for which no policy is needed.
+    Notes(Vec<Note>),
+
+    /// What is found of each issuer of a service, in the order of its document.
+    ByIssuer(Vec<Findings>),
 }
 
 /// What a run of the command came to.
@@ -47,8 +65,8 @@ pub struct Ran<'a> {
     /// The document that was refused; none where none was, or where the command reads none of these.
     pub subject: Option<Subject<'a>>,
 
-    /// What `policy` advises, and of `keys` the advice for which no policy is needed.
-    pub notes: Option<Vec<Note>>,
+    /// What `policy` and `keys` advise.
+    pub advised: Advised,
 }
 
 impl Ran<'_> {
@@ -60,7 +78,7 @@ impl Ran<'_> {
             status,
             cause: Cause::None,
             subject: None,
-            notes: None,
+            advised: Advised::Nothing,
         }
     }
 }
@@ -70,7 +88,7 @@ impl Ran<'_> {
 pub(crate) struct Replied<'a> {
     pub(crate) reply: Reply,
     pub(crate) subject: Option<Subject<'a>>,
-    pub(crate) notes: Option<Vec<Note>>,
+    pub(crate) advised: Advised,
 }
 
 impl<'a> Replied<'a> {
@@ -78,21 +96,17 @@ impl<'a> Replied<'a> {
     pub(crate) fn bare(reply: Reply) -> Replied<'a>
         ensures reply { result.reply ≡ reply }
     {
-        Replied {
-            reply,
-            subject: None,
-            notes: None,
-        }
+        Replied::advised(reply, Advised::Nothing)
     }
 
     /// No document is refused by it, and this is advised.
-    pub(crate) fn advised(reply: Reply, notes: Vec<Note>) -> Replied<'a>
+    pub(crate) fn advised(reply: Reply, advised: Advised) -> Replied<'a>
         ensures reply { result.reply ≡ reply }
     {
         Replied {
             reply,
             subject: None,
-            notes: Some(notes),
+            advised,
         }
     }
 
@@ -108,7 +122,7 @@ impl<'a> Replied<'a> {
         Replied {
             reply,
             subject,
-            notes: None,
+            advised: Advised::Nothing,
         }
     }
 }
@@ -156,6 +170,20 @@ pub(crate) fn refused_rule<'a>(
     Ok(Replied::on(reply, Subject::Access(fault, document)))
 }
 
+/// A service document is refused. Where memory was refused there is no answer.
+pub(crate) fn refused_service<'a>(
+    alloc: Global,
+    printing: Printing,
+    fault: ServiceFault,
+    document: TakenDocument<'a>,
+) -> Result<Replied<'a>, AllocError>
+    ensures done { IfOk result (λ a. a.reply.status ≡ 1) }
+    ensures memory { IfOk result (λ _. fault ≢ ServiceFault.OutOfMemory) }
+{
+    let reply = printed_service_fault(alloc, printing, &fault)?;
+    Ok(Replied::on(reply, Subject::Service(fault, document)))
+}
+
 /// The answer to a token, and the fault of its form, if it is refused for that.
 #[derive(Drop)]
 pub(crate) struct TokenReply {
@@ -188,7 +216,7 @@ pub(crate) fn give_replied<'a, W: Sink>(
             Replied {
                 reply,
                 subject,
-                notes,
+                advised,
             },
         ) => {
             let cause = reply.cause;
@@ -196,7 +224,7 @@ pub(crate) fn give_replied<'a, W: Sink>(
                 status: give(w, Ok(reply)),
                 cause,
                 subject,
-                notes,
+                advised,
             }
         }
         Err(_) => Ran::bare(lack_memory(w)),

@@ -24,7 +24,8 @@ use crate::input::buffered::Ahead;
 use crate::input::line::LineFault;
 use crate::run::{AtHand, verifiers_if};
 use crate::subject::{
-    Ran, give_alone, give_no_memory, give_replied, refused_keys, refused_policy, refused_rule,
+    Advised, Ran, give_alone, give_no_memory, give_replied, refused_keys, refused_policy,
+    refused_rule,
 };
 use crate::telling::Telling;
 use crate::verify::{on_octets, terms_at};
@@ -304,7 +305,7 @@ fn lines_in_hand<'a, R: Source, W: Sink, C: Clock>(
                 status: answer_lines(alloc, &shared, clock, r, w),
                 cause: Cause::None,
                 subject: None,
-                notes: None,
+                advised: Advised::Nothing,
             }
         }
         Err(AccessFault::OutOfMemory) => give_no_memory(w),

@@ -103,6 +103,7 @@ fn refused_of(alloc: Global, ran: &Ran<'_>) -> Result<Refused, AllocError> {
         Some(Subject::Policy(_, document)) => ("policy", document.octets()),
         Some(Subject::Keys(_, document)) => ("keys", document.octets()),
         Some(Subject::Access(_, document)) => ("access", document.octets()),
+        Some(Subject::Service(_, document)) => ("service", document.octets()),
         Some(Subject::Token(_, document)) => ("token", document.octets()),
         None => ("", b"".as_slice()),
     };

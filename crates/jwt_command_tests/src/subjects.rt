@@ -52,5 +52,13 @@ fn a_refused_document_is_the_subject(rt: HostRuntime) -> Result<(), Fail> {
     let found = refused_by(rt.alloc(), &words, held, "")?;
     assert_eq!(rt; found.kind, "keys");
     assert_eq!(rt; found.octets.as_slice(), b"7".as_slice());
+    let words = ["jwt", "policy", "--service", "s"];
+    let held = Held {
+        key: Some(b"[]"),
+        ..Held::none()
+    };
+    let found = refused_by(rt.alloc(), &words, held, "")?;
+    assert_eq!(rt; found.kind, "service");
+    assert_eq!(rt; found.octets.as_slice(), b"[]".as_slice());
     Ok(())
 }

@@ -1,7 +1,7 @@
 -- The tables of members of a document: a member is one row.
-use Rattle.std.specs.Prelude.{ℕ, List}
+use Rattle.std.specs.Prelude.{ℕ, List, [], ◌∷◌, codes}
 use Rattle.jwt_document.specs.declared.rows.Form.{Form}
-use Rattle.jwt_document.specs.declared.rows.Within.{Within as RustWithin}
+use Rattle.jwt_document.specs.declared.rows.Within.{Within}
 use Rattle.jwt_document.specs.declared.rows.Within.TheVariants as within
 
 -- what the value of a member has to be: true or false; true; a whole number, of at least and at most so much; a text of a form, of at
@@ -30,18 +30,20 @@ pub record Row : Type 0 where
   pub kind : Kind
   pub absent : Absent
 
--- the object that a table is of: the whole; the one of a name in the whole; the one of the second name in the one of the first
-pub data Within : Type 0 where
-  the_whole : Within
-  member : List ℕ → Within
-  inner : List ℕ → List ℕ → Within
+-- the names that lead to an object, each in the object of the one before, from the whole, or from its entry
+abbrev pub path : Within → List (List ℕ)
+path within.Whole = []
+path within.Rules = codes "rules" ∷ []
+path within.Remember = codes "remember" ∷ []
+path within.Dpop = codes "dpop" ∷ []
+path within.Nonce = codes "dpop" ∷ codes "nonce" ∷ []
+path within.Memory = codes "memory" ∷ []
+path within.Issue = codes "issue" ∷ []
+path within.Onward = codes "onward" ∷ []
+path within.Entry = []
+path within.Keys = codes "keys" ∷ []
 
--- the same, as contracts see it
-abbrev pub within_view : RustWithin → Within
-within_view within.Whole = the_whole
-within_view (within.Member name) = member name.now
-within_view (within.Inner outer name) = inner outer.now name.now
-
+-- the members of an object
 pub record Table : Type 0 where
   pub within : Within
   pub rows : List Row

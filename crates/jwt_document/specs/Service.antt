@@ -1,14 +1,15 @@
 -- The members of the document of a service, object by object.
 use Rattle.std.specs.Prelude.{ℕ, List, [], ◌∷◌, codes}
 use Rattle.jwt_document.specs.declared.rows.Form.TheVariants as form
-use Rattle.jwt_document.specs.Rows.{Kind, flag, given, whole, text, texts, word, an_object, items, Absent, refused, nothing, number, said, listed, Row, the_whole, member, inner, Table}
+use Rattle.jwt_document.specs.Rows.{Kind, flag, given, whole, text, texts, word, an_object, items, Absent, refused, nothing, number, said, listed, Row, Table}
+use Rattle.jwt_document.specs.declared.rows.Within.TheVariants as within
 
 abbrev pub row : List ℕ → Kind → Absent → Row
 row name kind absent = record { name = name; kind = kind; absent = absent }
 
 unfoldable pub the_service : Table
 the_service = record {
-  within = the_whole;
+  within = within.Whole;
   rows =
       row (codes "version") (whole 1 1) (number 1)
       ∷ row (codes "issuers") (items 64) refused
@@ -30,7 +31,7 @@ the_service = record {
 
 unfoldable pub remembering : Table
 remembering = record {
-  within = member (codes "remember");
+  within = within.Remember;
   rows =
       row (codes "tokens") (whole 1 1000000) refused
       ∷ row (codes "longest") (whole 1 1048576) (number 4096)
@@ -39,7 +40,7 @@ remembering = record {
 
 unfoldable pub dpop : Table
 dpop = record {
-  within = member (codes "dpop");
+  within = within.Dpop;
   rows =
       row (codes "origins") (texts form.Origin 1 64) refused
       ∷ row (codes "only") flag nothing
@@ -52,7 +53,7 @@ dpop = record {
 
 unfoldable pub nonce : Table
 nonce = record {
-  within = inner (codes "dpop") (codes "nonce");
+  within = within.Nonce;
   rows =
       row (codes "secret") (text form.Any 1 4096) refused
       ∷ row (codes "period") (whole 1 86400) (number 60)
@@ -61,7 +62,7 @@ nonce = record {
 
 unfoldable pub memory : Table
 memory = record {
-  within = member (codes "memory");
+  within = within.Memory;
   rows =
       row (codes "proofs") (whole 1 100000000) nothing
       ∷ row (codes "tokens") (whole 1 100000000) nothing
@@ -72,7 +73,7 @@ memory = record {
 
 unfoldable pub issue : Table
 issue = record {
-  within = member (codes "issue");
+  within = within.Issue;
   rows =
       row (codes "set") an_object nothing
       ∷ row (codes "secret") (text form.Any 1 4096) nothing
@@ -85,7 +86,7 @@ issue = record {
 
 unfoldable pub onward : Table
 onward = record {
-  within = member (codes "onward");
+  within = within.Onward;
   rows =
       row (codes "issuer") (text form.Any 0 4096) refused
       ∷ row (codes "audience") (text form.Any 0 4096) refused
@@ -101,7 +102,7 @@ rows_of table = table.rows
 
 unfoldable pub entry : Table
 entry = record {
-  within = the_whole;
+  within = within.Entry;
   rows =
       row (codes "policy") an_object refused
       ∷ row (codes "keys") an_object refused
@@ -111,7 +112,7 @@ entry = record {
 
 unfoldable pub keys : Table
 keys = record {
-  within = member (codes "keys");
+  within = within.Keys;
   rows =
       row (codes "set") an_object nothing
       ∷ row (codes "pem") (text form.Any 1 1048576) nothing

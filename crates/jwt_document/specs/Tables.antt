@@ -11,7 +11,8 @@ use Rattle.jwt_request.specs.urls.Urls.{url_where}
 use Rattle.jwt_policy.specs.Texts.{is_among}
 use Rattle.jwt_document.specs.declared.rows.Form.{Form}
 use Rattle.jwt_document.specs.declared.rows.Form.TheVariants as form
-use Rattle.jwt_document.specs.Rows.{Kind, flag, given, whole, text, texts, word, an_object, items, Absent, refused, number, Row, Within, the_whole, member, inner, Table}
+use Rattle.jwt_document.specs.Rows.{Kind, flag, given, whole, text, texts, word, an_object, items, Absent, refused, number, Row, path, Table}
+use Rattle.jwt_document.specs.declared.rows.Within.{Within}
 use Rattle.jwt_document.specs.declared.rows.Cause.{Cause}
 use Rattle.jwt_document.specs.declared.rows.Cause.TheVariants as cause
 
@@ -140,11 +141,13 @@ pub record Fault : Type 0 where
   pub name : List ℕ
   pub element : Option ℕ
 
--- the object that a table is of, where it is there
+-- the object to which names lead, each in the object of the one before, where it is there
+abbrev pub object_behind : List (List ℕ) → Members → Option Members
+object_behind [] ms = Some ms
+object_behind (name ∷ names) ms = option_and_then (object_behind names) (object_at name ms)
+
 abbrev pub object_within : Within → Members → Option Members
-object_within the_whole ms = Some ms
-object_within (member name) ms = object_at name ms
-object_within (inner outer name) ms = option_and_then (object_at name) (object_at outer ms)
+object_within within ms = object_behind (path within) ms
 
 abbrev pub placed : Within → Wrong → Fault
 placed w wrong = record { cause = wrong.cause; within = w; name = wrong.name; element = wrong.element }

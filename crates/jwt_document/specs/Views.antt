@@ -11,11 +11,11 @@ use Rattle.jwt_document.specs.declared.rows.Kind.TheVariants as kind
 use Rattle.jwt_document.specs.declared.rows.Absent.{Absent as RustAbsent}
 use Rattle.jwt_document.specs.declared.rows.Absent.TheVariants as absent
 use Rattle.jwt_document.specs.declared.rows.Row.{Row as RustRow}
-use Rattle.jwt_document.specs.declared.rows.Within.{Within as RustWithin}
+use Rattle.jwt_document.specs.declared.rows.Within.{Within}
 use Rattle.jwt_document.specs.declared.closed.Found.{Found}
 use Rattle.jwt_document.specs.declared.closed.Ill.{Ill as RustIll}
 use Rattle.jwt_document.specs.declared.closed.Wrong.{Wrong as Told}
-use Rattle.jwt_document.specs.Rows.{Kind, flag, given, whole, text, texts, word, an_object, items, Absent, refused, nothing, number, said, listed, Row, within_view, Table}
+use Rattle.jwt_document.specs.Rows.{Kind, flag, given, whole, text, texts, word, an_object, items, Absent, refused, nothing, number, said, listed, Row, Table}
 use Rattle.jwt_document.specs.Tables.{Fault, Ill, Wrong}
 
 abbrev pub kind_view : RustKind → Kind
@@ -38,11 +38,11 @@ absent_view (absent.Listed ts) = listed (map (λ t. t.now) ts.now)
 abbrev pub row_view : RustRow → Row
 row_view row = record { name = row.name.now; kind = kind_view row.kind; absent = absent_view row.absent }
 
-abbrev pub table_view : RustWithin → List RustRow → Table
-table_view within rows = record { within = within_view within; rows = map row_view rows }
+abbrev pub table_view : Within → List RustRow → Table
+table_view within rows = record { within = within; rows = map row_view rows }
 
 abbrev pub found : Found → Fault
-found f = record { cause = f.cause; within = within_view f.within; name = f.name.now; element = f.element }
+found f = record { cause = f.cause; within = f.within; name = f.name.now; element = f.element }
 
 abbrev pub ill : RustIll → Ill
 ill i = record { cause = i.cause; element = i.element }

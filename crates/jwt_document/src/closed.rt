@@ -4,7 +4,7 @@ ghost use Rattle.std.specs.Prelude.{◌≡◌, map, option_map};
 ghost use Rattle.std.specs.List.{list_any, list_all};
 ghost use Rattle.jwt_policy.specs.Texts.{is_among};
 ghost use Rattle.serde_json.specs.Find.{as_str};
-ghost use Rattle.jwt_document.specs.Tables.{unless, texts_ill, between, is_printable, is_origin, is_public, is_free, is_form, text_passes, is_element, element_cause, first_bad, ill_in, row_ill, is_known, unknown_in, wrong_in, fault_in, table_fault};
+ghost use Rattle.jwt_document.specs.Tables.{unless, texts_ill, between, is_printable, is_origin, is_public, is_free, is_form, text_passes, is_element, element_cause, first_bad, ill_in, row_ill, is_known, unknown_in, wrong_in, fault_in, object_behind, table_fault};
 ghost use Rattle.jwt_document.specs.Views.{found, ill, wrong, kind_view, row_view, table_view};
 
 use crate::rows::{Absent, Cause, Form, Kind, Row, Within};
@@ -299,6 +299,17 @@ fn fault_in<'a>(rows: &[Row], members: &ObjectRef<'a>) -> Option<Wrong<'a>>
     }
 }
 
+/// The object to which names lead, each in the object of the one before.
+fn object_behind<'a>(outer: ObjectRef<'a>, names: &[&'static str]) -> Option<ObjectRef<'a>>
+    ensures { result ≡ object_behind (map (λ name. name.now) names.now) outer.entry }
+{
+    let mut object = outer;
+    for name in names {
+        object = object.object(name)?;
+    }
+    Some(object)
+}
+
 /// The first fault of the object that a table is of, none where it is absent.
 pub(crate) fn table_fault<'a>(
     within: Within,
@@ -307,10 +318,9 @@ pub(crate) fn table_fault<'a>(
 ) -> Option<Found<'a>>
     ensures { option_map found result ≡ table_fault whole.now (table_view within rows.now) }
 {
-    let fault = match within {
-        Within::Whole => fault_in(rows, whole),
-        Within::Member(name) => fault_in(rows, &whole.object(name)?),
-        Within::Inner(outer, name) => fault_in(rows, &whole.object(outer)?.object(name)?),
+    let fault = match within.path() {
+        [] => fault_in(rows, whole),
+        [name, names @ ..] => fault_in(rows, &object_behind(whole.object(name)?, names)?),
     };
     match fault {
         Some(wrong) => Some(Found {

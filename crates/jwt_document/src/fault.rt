@@ -2,7 +2,6 @@
 
 ghost use Rattle.std.specs.Prelude.{◌≡◌, ◌≢◌, IfOk};
 ghost use Rattle.jwt_document.specs.declared.fault.ServiceFault.TheVariants.{OutOfMemory};
-ghost use Rattle.jwt_document.specs.Rows.{within_view};
 ghost use Rattle.jwt_document.specs.Views.{found};
 
 use crate::closed::Found;
@@ -28,13 +27,12 @@ pub struct FaultAt {
 impl Model for FaultAt {
     ghost use Rattle.std.specs.Prelude.{string_bytes};
     ghost use Rattle.jwt_document.specs.Tables.{Fault};
-    ghost use Rattle.jwt_document.specs.Rows.{within_view};
 
     ghost Value = { Fault };
 
     ghost view = { λ f. record {
       cause = f.cause;
-      within = within_view f.within;
+      within = f.within;
       name = string_bytes f.name;
       element = f.element;
     } };
@@ -63,7 +61,7 @@ impl FaultAt {
 
     /// The object in which the member stands, or is missing.
     pub fn within(&self) -> Within
-        ensures { within_view result ≡ self.now.within }
+        ensures { result ≡ self.now.within }
     {
         self.within
     }

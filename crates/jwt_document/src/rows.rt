@@ -1,5 +1,8 @@
 //! The rows of tables of members.
 
+ghost use Rattle.std.specs.Prelude.{◌≡◌, map};
+ghost use Rattle.jwt_document.specs.Rows.{path};
+
 /// What a text has to be besides its length.
 #[derive(Clone, Copy)]
 pub(crate) enum Form {
@@ -59,15 +62,48 @@ pub(crate) struct Row {
     pub(crate) absent: Absent,
 }
 
-/// The object whose members a table says.
-#[derive(Clone, Copy)]
+/// An object of the document.
+#[derive(Clone, Copy, PartialEq, Eq)]
 pub enum Within {
     /// The whole.
     Whole,
-    /// The one of this name in the whole.
-    Member(&'static str),
-    /// The one of the second name in the one of the first.
-    Inner(&'static str, &'static str),
+    /// `rules`.
+    Rules,
+    /// `remember`.
+    Remember,
+    /// `dpop`.
+    Dpop,
+    /// `nonce` of `dpop`.
+    Nonce,
+    /// `memory`.
+    Memory,
+    /// `issue`.
+    Issue,
+    /// `onward`.
+    Onward,
+    /// An entry of `issuers`.
+    Entry,
+    /// `keys` of an entry.
+    Keys,
+}
+
+impl Within {
+    /// The names that lead to it, each in the object of the one before, from the whole, or from its entry.
+    pub fn path(self) -> &'static [&'static str]
+        ensures { map (λ name. name.now) result.now ≡ path self }
+    {
+        match self {
+            Within::Whole | Within::Entry => &[],
+            Within::Rules => &["rules"],
+            Within::Remember => &["remember"],
+            Within::Dpop => &["dpop"],
+            Within::Nonce => &["dpop", "nonce"],
+            Within::Memory => &["memory"],
+            Within::Issue => &["issue"],
+            Within::Onward => &["onward"],
+            Within::Keys => &["keys"],
+        }
+    }
 }
 
 /// Why a member is refused.

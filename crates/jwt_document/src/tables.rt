@@ -41,7 +41,7 @@ fn in_entry<'a>(members: &ObjectRef<'a>) -> Option<Found<'a>>
     ensures { option_map found result ≡ table_fault members.now entry }
 {
     let rows = entry_rows();
-    table_fault(Within::Whole, &rows, members)
+    table_fault(Within::Entry, &rows, members)
 }
 
 /// The rows of the table.
@@ -69,7 +69,7 @@ fn in_keys<'a>(members: &ObjectRef<'a>) -> Option<Found<'a>>
     ensures { option_map found result ≡ table_fault members.now keys }
 {
     let rows = keys_rows();
-    table_fault(Within::Member("keys"), &rows, members)
+    table_fault(Within::Keys, &rows, members)
 }
 
 /// The first fault of the members of an entry, object by object.
@@ -132,7 +132,7 @@ fn in_remembering<'a>(members: &ObjectRef<'a>) -> Option<Found<'a>>
     ensures { option_map found result ≡ table_fault members.now remembering }
 {
     let rows = remembering_rows();
-    table_fault(Within::Member("remember"), &rows, members)
+    table_fault(Within::Remember, &rows, members)
 }
 
 /// The rows of the table.
@@ -155,7 +155,7 @@ fn in_dpop<'a>(members: &ObjectRef<'a>) -> Option<Found<'a>>
     ensures { option_map found result ≡ table_fault members.now dpop }
 {
     let rows = dpop_rows();
-    table_fault(Within::Member("dpop"), &rows, members)
+    table_fault(Within::Dpop, &rows, members)
 }
 
 /// The rows of the table.
@@ -174,7 +174,7 @@ fn in_nonce<'a>(members: &ObjectRef<'a>) -> Option<Found<'a>>
     ensures { option_map found result ≡ table_fault members.now nonce }
 {
     let rows = nonce_rows();
-    table_fault(Within::Inner("dpop", "nonce"), &rows, members)
+    table_fault(Within::Nonce, &rows, members)
 }
 
 /// The rows of the table.
@@ -195,7 +195,7 @@ fn in_memory<'a>(members: &ObjectRef<'a>) -> Option<Found<'a>>
     ensures { option_map found result ≡ table_fault members.now memory }
 {
     let rows = memory_rows();
-    table_fault(Within::Member("memory"), &rows, members)
+    table_fault(Within::Memory, &rows, members)
 }
 
 /// The rows of the table.
@@ -222,7 +222,7 @@ fn in_issue<'a>(members: &ObjectRef<'a>) -> Option<Found<'a>>
     ensures { option_map found result ≡ table_fault members.now issue }
 {
     let rows = issue_rows();
-    table_fault(Within::Member("issue"), &rows, members)
+    table_fault(Within::Issue, &rows, members)
 }
 
 /// The rows of the table.
@@ -243,7 +243,7 @@ fn in_onward<'a>(members: &ObjectRef<'a>) -> Option<Found<'a>>
     ensures { option_map found result ≡ table_fault members.now onward }
 {
     let rows = onward_rows();
-    table_fault(Within::Member("onward"), &rows, members)
+    table_fault(Within::Onward, &rows, members)
 }
 
 /// The first fault of the members of a service, object by object.

@@ -14,19 +14,19 @@ use strsim::levenshtein;
 
 // ---- rows
 
-/// The row of this name in the object, of an entry or of the whole.
-fn row_of(is_entry: bool, within: Within, name: &str) -> Option<Row> {
+/// The row of this name in the object.
+fn row_of(within: Within, name: &str) -> Option<Row> {
     match within {
-        Within::Whole if is_entry => row_named(&entry_rows(), name),
         Within::Whole => row_named(&the_service_rows(), name),
-        Within::Member("keys") => row_named(&keys_rows(), name),
-        Within::Member("remember") => row_named(&remembering_rows(), name),
-        Within::Member("dpop") => row_named(&dpop_rows(), name),
-        Within::Member("memory") => row_named(&memory_rows(), name),
-        Within::Member("issue") => row_named(&issue_rows(), name),
-        Within::Member("onward") => row_named(&onward_rows(), name),
-        Within::Member(_) => None,
-        Within::Inner(_, _) => row_named(&nonce_rows(), name),
+        Within::Rules => None,
+        Within::Remember => row_named(&remembering_rows(), name),
+        Within::Dpop => row_named(&dpop_rows(), name),
+        Within::Nonce => row_named(&nonce_rows(), name),
+        Within::Memory => row_named(&memory_rows(), name),
+        Within::Issue => row_named(&issue_rows(), name),
+        Within::Onward => row_named(&onward_rows(), name),
+        Within::Entry => row_named(&entry_rows(), name),
+        Within::Keys => row_named(&keys_rows(), name),
     }
 }
 
@@ -53,24 +53,23 @@ fn nearest_in(alloc: Global, name: &str, rows: &[Row]) -> Result<Option<&'static
     }
 }
 
-/// The member of the object, of an entry or of the whole, that is near to a name.
+/// The member of the object that is near to a name.
 fn nearest_of(
     alloc: Global,
-    is_entry: bool,
     within: Within,
     name: &str,
 ) -> Result<Option<&'static str>, AllocError> {
     match within {
-        Within::Whole if is_entry => nearest_in(alloc, name, &entry_rows()),
         Within::Whole => nearest_in(alloc, name, &the_service_rows()),
-        Within::Member("keys") => nearest_in(alloc, name, &keys_rows()),
-        Within::Member("remember") => nearest_in(alloc, name, &remembering_rows()),
-        Within::Member("dpop") => nearest_in(alloc, name, &dpop_rows()),
-        Within::Member("memory") => nearest_in(alloc, name, &memory_rows()),
-        Within::Member("issue") => nearest_in(alloc, name, &issue_rows()),
-        Within::Member("onward") => nearest_in(alloc, name, &onward_rows()),
-        Within::Member(_) => Ok(None),
-        Within::Inner(_, _) => nearest_in(alloc, name, &nonce_rows()),
+        Within::Rules => Ok(None),
+        Within::Remember => nearest_in(alloc, name, &remembering_rows()),
+        Within::Dpop => nearest_in(alloc, name, &dpop_rows()),
+        Within::Nonce => nearest_in(alloc, name, &nonce_rows()),
+        Within::Memory => nearest_in(alloc, name, &memory_rows()),
+        Within::Issue => nearest_in(alloc, name, &issue_rows()),
+        Within::Onward => nearest_in(alloc, name, &onward_rows()),
+        Within::Entry => nearest_in(alloc, name, &entry_rows()),
+        Within::Keys => nearest_in(alloc, name, &keys_rows()),
     }
 }
 
@@ -114,11 +113,11 @@ fn kind_words(alloc: Global, kind: Kind, is_element: bool) -> Result<String, All
 }
 
 /// What the member of a fault has to be. A rule, which has no row, is an object with a name.
-fn has_to_be(alloc: Global, is_entry: bool, at: &FaultAt) -> Result<String, AllocError> {
-    if matches!(at.within(), Within::Inner(_, _)) && at.name() == "secret" {
+fn has_to_be(alloc: Global, at: &FaultAt) -> Result<String, AllocError> {
+    if at.within() == Within::Nonce && at.name() == "secret" {
         return String::from_str(alloc, "32 octets or more, in base64url");
     }
-    match row_of(is_entry, at.within(), at.name()) {
+    match row_of(at.within(), at.name()) {
         Some(row) => kind_words(alloc, row.kind, at.element().is_some()),
         None => String::from_str(alloc, "an object, behind a name of 1 to 256 octets"),
     }
@@ -135,13 +134,13 @@ fn joined(alloc: Global, outer: &str, inner: &str) -> Result<String, AllocError>
     }
 }
 
-/// The path of an object, as `dpop.nonce`; empty for that of the whole.
+/// The path of an object, as `dpop.nonce`; empty for that of the whole or of an entry.
 fn object_path(alloc: Global, within: Within) -> Result<String, AllocError> {
-    match within {
-        Within::Whole => Ok(String::new(alloc)),
-        Within::Member(name) => String::from_str(alloc, name),
-        Within::Inner(outer, name) => joined(alloc, outer, name),
+    let mut path = String::new(alloc);
+    for name in within.path() {
+        path = joined(alloc, path.as_str(), name)?;
     }
+    Ok(path)
 }
 
 /// The name of a member, where it isn't a plain word as JSON has it; with the number of its element where the fault is about one.
@@ -188,7 +187,7 @@ fn at_line(
         ),
         (Cause::Short, _) => format!(in alloc; "{member}: it has too few octets"),
         (Cause::Kind | Cause::Range, _) => {
-            let words = has_to_be(alloc, !entry.is_empty(), at)?;
+            let words = has_to_be(alloc, at)?;
             format!(in alloc; "{member}: it has to be {}", words.as_str())
         }
     }
@@ -276,11 +275,8 @@ pub(crate) fn nearest_to(
     fault: &ServiceFault,
 ) -> Result<Option<&'static str>, AllocError> {
     match fault {
-        ServiceFault::Member(at) if at.cause() == Cause::Unknown => {
-            nearest_of(alloc, false, at.within(), at.name())
-        }
-        ServiceFault::Entry(_, at) if at.cause() == Cause::Unknown => {
-            nearest_of(alloc, true, at.within(), at.name())
+        ServiceFault::Member(at) | ServiceFault::Entry(_, at) if at.cause() == Cause::Unknown => {
+            nearest_of(alloc, at.within(), at.name())
         }
         _ => Ok(None),
     }
@@ -290,13 +286,8 @@ pub(crate) fn nearest_to(
 
 /// Adds the steps to the member of a fault.
 fn add_steps<'a>(steps: &mut Vec<Step<'a>>, at: &'a FaultAt) -> Result<(), AllocError> {
-    match at.within() {
-        Within::Whole => {}
-        Within::Member(name) => steps.push(Step::Name(name))?,
-        Within::Inner(outer, name) => {
-            steps.push(Step::Name(outer))?;
-            steps.push(Step::Name(name))?;
-        }
+    for name in at.within().path() {
+        steps.push(Step::Name(name))?;
     }
     steps.push(Step::Name(at.name()))?;
     if let Some(number) = at.element() {

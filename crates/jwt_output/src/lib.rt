@@ -15,6 +15,7 @@ mod pieces;
 mod pretty;
 pub mod reasons;
 mod refusals;
+mod refused_service;
 mod reply;
 mod sending;
 mod show;
@@ -33,6 +34,7 @@ pub use refusals::{
     printed_policy_fault, printed_read_fault, random_failed, refused_claims, refused_issue,
     refused_jwk, refused_named,
 };
+pub use refused_service::printed_service_fault;
 pub use reply::Reply;
 pub use sending::{give, lack_memory, send};
 pub use show::printed_token;

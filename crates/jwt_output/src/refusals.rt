@@ -51,7 +51,7 @@ pub fn printed_file_fault(
 }
 
 /// A document is refused, by its word in lines and in JSON, for a fault of this name.
-fn with_document<'a>(
+pub(crate) fn with_document<'a>(
     alloc: Global,
     line: &'static str,
     json: &'static str,
@@ -78,14 +78,14 @@ pub fn printed_keys_fault(
 }
 
 /// A member.
-fn put_member<'a>(out: &mut Fields<'a>, name: &'a str) -> Result<(), AllocError>
+pub(crate) fn put_member<'a>(out: &mut Fields<'a>, name: &'a str) -> Result<(), AllocError>
     ensures { OnOk result (out.new ≡ out.old ++ member_fields name.now) }
 {
     out.put(FieldName::Member, FieldValue::Text(name))
 }
 
 /// The member that is near to a name, where there is one.
-fn put_near<'a>(out: &mut Fields<'a>, near: Option<&'a str>) -> Result<(), AllocError>
+pub(crate) fn put_near<'a>(out: &mut Fields<'a>, near: Option<&'a str>) -> Result<(), AllocError>
     ensures { OnOk result (out.new ≡ out.old ++ near_fields (option_map (λ t. t.now) near.entry)) }
 {
     match near {
@@ -95,7 +95,7 @@ fn put_near<'a>(out: &mut Fields<'a>, near: Option<&'a str>) -> Result<(), Alloc
 }
 
 /// The member that a fault of the policy names.
-fn put_policy_fault<'a>(
+pub(crate) fn put_policy_fault<'a>(
     alloc: Global,
     out: &mut Fields<'a>,
     fault: &'a PolicyFault,
@@ -126,7 +126,10 @@ pub fn printed_policy_fault(
 }
 
 /// The member that a fault of an access rule names, or the claim that it asks for.
-fn put_access_fault<'a>(out: &mut Fields<'a>, fault: &'a AccessFault) -> Result<(), AllocError>
+pub(crate) fn put_access_fault<'a>(
+    out: &mut Fields<'a>,
+    fault: &'a AccessFault,
+) -> Result<(), AllocError>
     ensures { OnOk result (out.new ≡ out.old ++ access_fields fault.now) }
 {
     match fault {

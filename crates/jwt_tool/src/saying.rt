@@ -1,11 +1,12 @@
 //! What is said on standard error. What becomes of it changes nothing.
+use jwt_advice::Note;
 use jwt_command::documents::Held;
-use jwt_command::subject::{Ran, Subject};
+use jwt_command::subject::{Advised, Ran, Subject};
 use jwt_command::{Command, WordsFault};
 use jwt_jws::FormFault;
 use jwt_output::reasons::{
     Cause, Reason, access_reason, around_token, claims_detail, keys_reason, policy_reason,
-    token_reason, token_sentences,
+    service_reason, token_reason, token_sentences,
 };
 use jwt_output::terminal::push_quoted;
 use jwt_output::verdicts::explained_note;
@@ -23,6 +24,8 @@ const POLICY: Document = ("policy", "policy");
 const KEYS: Document = ("keys", "key set");
 
 const ACCESS: Document = ("access", "access rule");
+
+const SERVICE: Document = ("service", "service document");
 
 const TOKEN: Document = ("token", "token");
 
@@ -130,6 +133,10 @@ pub fn say_why_refused(
             let reason = access_reason(alloc, fault, document.octets());
             say_reason(rt, printing, ACCESS, reason);
         }
+        Subject::Service(fault, document) => {
+            let reason = service_reason(alloc, fault, document.octets());
+            say_reason(rt, printing, SERVICE, reason);
+        }
         Subject::Token(fault, token) => {
             say_of_token(rt, printing, *fault, token.octets(), now, cause)
         }
@@ -217,11 +224,21 @@ pub fn say_hint(rt: &HostRuntime, words: &[&str]) {
 
 /// Says of each advice what it says and what to write.
 pub fn say_advice(rt: &HostRuntime, printing: Printing, ran: &Ran<'_>) {
-    let Some(notes) = &ran.notes else {
-        return;
-    };
+    match &ran.advised {
+        Advised::Nothing => {}
+        Advised::Notes(notes) => say_notes(rt, printing, None, notes.as_slice()),
+        Advised::ByIssuer(found) => {
+            for number in 0..found.len() {
+                say_notes(rt, printing, Some(number), found[number].notes.as_slice());
+            }
+        }
+    }
+}
+
+/// The same of these, of a service of the issuer of this number.
+fn say_notes(rt: &HostRuntime, printing: Printing, issuer: Option<usize>, notes: &[Note]) {
     for note in notes {
-        if let Ok(reply) = explained_note(rt.alloc(), printing, *note) {
+        if let Ok(reply) = explained_note(rt.alloc(), printing, issuer, *note) {
             let text = str::from_utf8(reply.text.as_slice()).unwrap_or("");
             match printing {
                 Printing::Json => {

@@ -66,6 +66,9 @@ pub record Examples : Type 0 where
   pub secret_for_public_keys : command_of None (codes "jwt" ∷ codes "jwk" ∷ codes "--secret" ∷ codes "k" ∷ codes "--alg" ∷ codes "RS256" ∷ []) ≡ None
   pub policy_alone : command_of None (codes "jwt" ∷ codes "policy" ∷ codes "--policy=p" ∷ []) ≡ Some (Policy (record { printing = Lines; files = record no_files { policy = Some (codes "p") } }))
   pub policy_with_keys : command_of None (codes "jwt" ∷ codes "policy" ∷ codes "--json" ∷ codes "--keys" ∷ codes "k" ∷ codes "--policy" ∷ codes "p" ∷ []) ≡ Some (Policy (record { printing = Json; files = record no_files { policy = Some (codes "p"); keys = Some (codes "k") } }))
+  pub service_alone : command_of None (codes "jwt" ∷ codes "policy" ∷ codes "--service=s" ∷ []) ≡ Some (Policy (record { printing = Lines; files = record no_files { key = Some (codes "s") } }))
+  pub service_beside_a_policy : command_of None (codes "jwt" ∷ codes "policy" ∷ codes "--service=s" ∷ codes "--policy=p" ∷ []) ≡ None
+  pub service_beside_keys : command_of None (codes "jwt" ∷ codes "policy" ∷ codes "--service=s" ∷ codes "--keys=k" ∷ []) ≡ None
   pub policy_unnamed : command_of None (codes "jwt" ∷ codes "policy" ∷ codes "--keys=k" ∷ []) ≡ None
   pub policy_twice : command_of None (codes "jwt" ∷ codes "policy" ∷ codes "--policy=p" ∷ codes "--policy=p" ∷ []) ≡ None
   pub policy_lines : command_of None (codes "jwt" ∷ codes "policy" ∷ codes "--policy=p" ∷ codes "--lines" ∷ []) ≡ None

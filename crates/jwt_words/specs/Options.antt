@@ -70,7 +70,7 @@ jwk_app = app_by false (codes "jwk") ((codes "file", Text) ∷ (codes "der", Not
     ∷ (codes "alg", Text) ∷ (codes "bare", Nothing) ∷ (codes "new", Text) ∷ (codes "secret", Text) ∷ (codes "json", Nothing) ∷ [])
 
 abbrev pub policy_app : App
-policy_app = app_by false (codes "policy") ((codes "policy", Needed) ∷ (codes "keys", Text) ∷ (codes "json", Nothing) ∷ [])
+policy_app = app_by false (codes "policy") ((codes "policy", Text) ∷ (codes "keys", Text) ∷ (codes "service", Text) ∷ (codes "json", Nothing) ∷ [])
 
 abbrev pub top_app : App
 top_app = record (new_app (codes "jwt")) { top = record (new_app (codes "jwt")).top { subcommand_required = true } }

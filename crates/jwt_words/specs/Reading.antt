@@ -40,5 +40,5 @@ reads (Issue alg typ form files) = files_and_input Lines files
 reads Version = files_alone Lines no_files
 reads (Jwk order) = record (files_and_input order.printing order.files) { key_limit = LONGEST_KEY_SET }
 reads (NewSecret order) = record (files_alone order.printing order.files) { key_limit = 4096; random = if is_some order.files.key then 0 else digest_size order.alg }
-reads (Policy order) = files_alone order.printing order.files
+reads (Policy order) = record (files_alone order.printing order.files) { key_limit = LONGEST_KEY_SET }
 reads (Pretty order) = files_and_input Lines no_files

@@ -62,7 +62,7 @@ pub record SecretOrder : Type 0 where
   pub kid : Option Text
   pub files : Files
 
--- what `policy` asks for: the file of the policy, and that of a key set, if any
+-- what `policy` asks for: the file of the policy, and that of a key set, if any; or that of a service document
 pub record PolicyOrder : Type 0 where
   pub printing : Printing
   pub files : Files
@@ -247,8 +247,14 @@ kept_secret_order rows = if asks_of_public_keys rows || is_named (codes "new") r
 abbrev pub documents_in : Option Text → Option Text → Files
 documents_in policy keys = record { policy = policy; keys = keys; access = None; token = None; key = None }
 
-abbrev pub policy_order : List Row → PolicyOrder
-policy_order rows = record { printing = printing_in rows; files = documents_in (first_of (codes "policy") rows) (first_of (codes "keys") rows) }
+-- a policy, with a key set or without, or a service document: one of the two
+abbrev pub meant_in : Option Text → Option Text → Option Text → Option Files
+meant_in (Some policy) keys None = Some (documents_in (Some policy) keys)
+meant_in None None (Some service) = Some (key_file_in (Some service))
+meant_in policy keys service = None
+
+abbrev pub policy_order : List Row → Option PolicyOrder
+policy_order rows = option_map (λ files. record { printing = printing_in rows; files = files }) (meant_in (first_of (codes "policy") rows) (first_of (codes "keys") rows) (first_of (codes "service") rows))
 
 -- ---- a token for a person
 
@@ -277,7 +283,7 @@ command_in clock name rows =
     else if bytes_eq name (codes "verify") then verify_order clock rows
     else if bytes_eq name (codes "issue") then issue_order rows
     else if bytes_eq name (codes "jwk") then jwk_or_secret rows
-    else if bytes_eq name (codes "policy") then Some (Policy (policy_order rows))
+    else if bytes_eq name (codes "policy") then option_map (λ order. Policy order) (policy_order rows)
     else None
 
 -- what a subcommand with its matches asks for, where `clap` has no fault

@@ -56,7 +56,10 @@ fn chosen_command<'a>(
         "verify" => chosen_verify(options, clock),
         "issue" => chosen_issue(options),
         "jwk" => chosen_jwk_or_secret(options),
-        "policy" => Some(Command::Policy(chosen_policy(options))),
+        "policy" => {
+            let order = chosen_policy(options)?;
+            Some(Command::Policy(order))
+        }
         _ => None,
     }
 }

@@ -28,7 +28,7 @@ pub struct Files<'a> {
     /// The file of the token.
     pub token: Option<&'a str>,
 
-    /// The file of the key of `mac`, or of the public keys or the secret of `jwk`.
+    /// The file of the key of `mac`, of the public keys or the secret of `jwk`, or of the service document of `policy`.
     pub key: Option<&'a str>,
 }
 
@@ -117,7 +117,8 @@ pub struct Reads<'a> {
     /// The files that it names.
     pub files: Files<'a>,
 
-    /// The most octets of the file of a key: 5,463 of the text of that of `mac`, 4,096 of a secret, and 4,194,304 of public keys.
+    /// The most octets of the file of a key: 5,463 of the text of that of `mac`, 4,096 of a secret, and 4,194,304 of public keys and
+    /// of a service document.
     pub key_limit: u32,
 
     /// How many octets of the system's random source: 32, 48 or 64 for a new secret, and else none.
@@ -203,7 +204,10 @@ impl<'a> Command<'a> {
                 },
                 ..Reads::files_alone(order.printing, order.files)
             },
-            Command::Policy(order) => Reads::files_alone(order.printing, order.files),
+            Command::Policy(order) => Reads {
+                key_limit: LONGEST_KEY_SET,
+                ..Reads::files_alone(order.printing, order.files)
+            },
         }
     }
 }

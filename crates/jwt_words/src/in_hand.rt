@@ -21,7 +21,7 @@ pub struct Held<'a> {
     pub token: Option<&'a [u8]>,
 
     /// The text of the key of `mac`, and one line feed behind it or none; more than 5,463 are too many. Of `jwk`, public keys in PEM or
-    /// DER; more than 4,194,304 are too many.
+    /// DER, and of `policy` the service document; more than 4,194,304 are too many.
     pub key: Option<&'a [u8]>,
 
     /// Octets of the system's random source, as many as [`reads`](crate::Command::reads) says; none where it gave fewer.

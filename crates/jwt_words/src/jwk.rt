@@ -131,7 +131,7 @@ fn chosen_public_alg<'a>(options: &ArgMatches<'a>) -> Option<Option<&'a str>>
 }
 
 /// The file of the keys alone.
-fn key_file_in<'a>(name: Option<&'a str>) -> Files<'a>
+pub(crate) fn key_file_in<'a>(name: Option<&'a str>) -> Files<'a>
     ensures { files_view result ≡ key_file_in (option_map (λ t. t.now) name.entry) }
 {
     Files {

@@ -96,8 +96,9 @@ pub(crate) const JWK: [OptionRow; 9] = [
 ];
 
 /// The options of `policy`.
-pub(crate) const POLICY: [OptionRow; 3] = [
-    row! { "policy", "FILE", Needed, "The file of the policy" },
+pub(crate) const POLICY: [OptionRow; 4] = [
+    row! { "policy", "FILE", Text, "The file of the policy" },
     row! { "keys", "FILE", Text, "The file of the key set that goes with it" },
+    row! { "service", "FILE", Text, "The file of a service document, in the place of --policy and --keys" },
     row! { "json", "", Nothing, "Prints one JSON object on one line" },
 ];

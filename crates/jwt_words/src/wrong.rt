@@ -3,6 +3,7 @@
 use crate::chosen::{chosen_expectation, is_set};
 use crate::jwk::wrong_jwk;
 use crate::nearest::nearest;
+use crate::policy::wrong_policy;
 use clap::ArgMatches;
 use jwt_mac::Alg;
 use std::alloc::{AllocError, Global};
@@ -14,6 +15,7 @@ pub(crate) fn unknown_name(alloc: Global, matches: &ArgMatches<'_>) -> Result<St
         Some(("mac", options)) => wrong_keys(alloc, options),
         Some(("verify", options)) => wrong_verify(alloc, options),
         Some(("jwk", options)) => wrong_jwk(alloc, options),
+        Some(("policy", options)) => wrong_policy(alloc, options),
         Some(("show", options)) => wrong_show(alloc, options),
         Some((_, options)) => unknown_option(alloc, options),
         None => unknown_option(alloc, matches),

@@ -9,6 +9,8 @@ use std::alloc::{AllocError, Global};
 #[derive(Drop)]
 pub(crate) struct Listing {
     printing: Printing,
+    /// What each line begins with.
+    mark: String,
     lines: Vec<u8>,
     object: JsonOut,
 }
@@ -19,9 +21,15 @@ impl Listing {
         let object = JsonOut::object(alloc)?;
         Ok(Listing {
             printing,
+            mark: String::new(alloc),
             lines: Vec::new(alloc),
             object,
         })
+    }
+
+    /// From here on each line begins with this.
+    pub(crate) fn begin_lines(&mut self, mark: String) {
+        self.mark = mark;
     }
 
     /// How it is printed.
@@ -53,6 +61,14 @@ impl Listing {
         }
     }
 
+    /// An object of the list that has begun begins.
+    pub(crate) fn begin_item(&mut self) -> Result<(), AllocError> {
+        match self.printing {
+            Printing::Json => self.object.begin_object(),
+            Printing::Lines => Ok(()),
+        }
+    }
+
     /// The object ends.
     pub(crate) fn end_object(&mut self) -> Result<(), AllocError> {
         match self.printing {
@@ -71,6 +87,7 @@ impl Listing {
         match self.printing {
             Printing::Json => fields.members(alloc, &mut self.object),
             Printing::Lines => {
+                self.lines.extend_from_slice(self.mark.as_bytes())?;
                 self.lines.extend_from_slice(head.as_bytes())?;
                 self.lines.extend_from_slice(fields.line(alloc)?.as_slice())
             }
@@ -100,7 +117,8 @@ impl Listing {
         match self.printing {
             Printing::Json => self.object.number(u64::from(number)),
             Printing::Lines => {
-                let line = format!(in alloc; "{head}{number}\n")?;
+                let mark = self.mark.as_str();
+                let line = format!(in alloc; "{mark}{head}{number}\n")?;
                 self.lines.extend_from_slice(line.as_bytes())
             }
         }
@@ -112,6 +130,7 @@ impl Listing {
             printing,
             lines,
             object,
+            ..
         } = self;
         match printing {
             Printing::Json => object.line(),

@@ -1,10 +1,11 @@
 //! The reason why a document is refused.
 use crate::reasons::members::member_words;
-use crate::reasons::place::place_behind;
+use crate::reasons::place::{Position, place_behind};
 use crate::reasons::reason::Reason;
 use crate::reasons::scan::{doubled_name, json_fault};
 use crate::terminal::push_quoted;
 use jwt_access::AccessFault;
+use jwt_document::ServiceFault;
 use jwt_jws::FormFault;
 use jwt_keys::KeysFault;
 use jwt_policy::PolicyFault;
@@ -164,6 +165,26 @@ fn of_rule(alloc: Global, fault: &AccessFault) -> Result<Reason, AllocError> {
         words.push_str(rest)?;
     }
     Ok(Reason { place: None, words })
+}
+
+/// The same of a service document, in the sentence of its fault, with the place of what that is about, where it is known.
+///
+/// # Errors
+/// `AllocError`, where an allocation was refused.
+pub fn service_reason(
+    alloc: Global,
+    fault: &ServiceFault,
+    document: &[u8],
+) -> Result<Reason, AllocError> {
+    let place = match fault.place(alloc, document)? {
+        Some(place) => Some(Position {
+            line: place.line as u64,
+            column: place.column as u64,
+        }),
+        None => None,
+    };
+    let words = fault.line(alloc)?;
+    Ok(Reason { place, words })
 }
 
 /// Why octets in JSON form are no token: the place at which their text can't be JSON, or at which a name stands twice; none of any other

@@ -60,7 +60,7 @@ fn put_bounds(
 }
 
 /// What the keys of a policy are for.
-fn put_facts(
+pub(crate) fn put_facts(
     alloc: Global,
     out: &mut Listing,
     policy: &Policy,
@@ -71,14 +71,21 @@ fn put_facts(
     put_bounds(alloc, out, policy, facts)
 }
 
-/// An advice by its name, and what it is about.
-fn note_fields<'a>(alloc: Global, note: Note) -> Result<(Fields<'a>, &'static str), AllocError> {
+/// An advice by its name, and what it is about; of a service also the number of the issuer.
+fn note_fields<'a>(
+    alloc: Global,
+    issuer: Option<usize>,
+    note: Note,
+) -> Result<(Fields<'a>, &'static str), AllocError> {
     let mut fields = Fields::none(alloc);
     let name = match note {
         Note::Whole(advice) | Note::OfKey(advice, _) => advice.name(),
         Note::PrivateEntry(_) => "PrivateMember",
     };
     fields.word(FieldName::Name, name)?;
+    if let Some(number) = issuer {
+        fields.count(FieldName::Issuer, number as u64)?;
+    }
     match note {
         Note::Whole(_) => {}
         Note::OfKey(_, key) => fields.count(FieldName::Key, u64::from(key))?,
@@ -88,20 +95,29 @@ fn note_fields<'a>(alloc: Global, note: Note) -> Result<(Fields<'a>, &'static st
 }
 
 /// An advice with what it says and what to write: a line behind `advice`, or a JSON object.
-pub fn explained_note(alloc: Global, printing: Printing, note: Note) -> Result<Reply, AllocError> {
-    let (mut fields, name) = note_fields(alloc, note)?;
+pub fn explained_note(
+    alloc: Global,
+    printing: Printing,
+    issuer: Option<usize>,
+    note: Note,
+) -> Result<Reply, AllocError> {
+    let (mut fields, name) = note_fields(alloc, issuer, note)?;
     fields.word(FieldName::Sentence, advice_sentence(name))?;
     fields.printed(alloc, printing, 0)
 }
 
-/// What ought to be written otherwise.
-fn put_notes(alloc: Global, out: &mut Listing, notes: &[Note]) -> Result<(), AllocError> {
-    out.begin_list("advice")?;
+/// What ought to be written otherwise, of a service with the number of the issuer.
+pub(crate) fn put_notes(
+    alloc: Global,
+    out: &mut Listing,
+    issuer: Option<usize>,
+    notes: &[Note],
+) -> Result<(), AllocError> {
     for note in notes {
-        let (fields, _) = note_fields(alloc, *note)?;
+        let (fields, _) = note_fields(alloc, issuer, *note)?;
         out.row(alloc, "advice", &fields)?;
     }
-    out.end_list()
+    Ok(())
 }
 
 /// The status: 1 where something ought to be written otherwise.
@@ -124,10 +140,14 @@ pub fn printed_policy(
 {
     let status = status_of(found.notes.as_slice());
     let mut out = Listing::new(alloc, printing)?;
-    put_members(alloc, &mut out, document, policy)?;
+    out.begin_object("members")?;
+    put_members(alloc, &mut out, "", document, policy)?;
+    out.end_object()?;
     if let Some(facts) = &found.facts {
         put_facts(alloc, &mut out, policy, facts)?;
     }
-    put_notes(alloc, &mut out, found.notes.as_slice())?;
+    out.begin_list("advice")?;
+    put_notes(alloc, &mut out, None, found.notes.as_slice())?;
+    out.end_list()?;
     Ok(Reply::of(out.text()?, status))
 }

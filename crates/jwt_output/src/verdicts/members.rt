@@ -1,4 +1,4 @@
-//! The members of a policy, with their values.
+//! The members of a document, with their values, and those of a policy.
 
 use crate::JsonOut;
 use crate::fields::{FieldName, FieldValue, Fields, Listing};
@@ -8,16 +8,32 @@ use jwt_text::ObjectRef;
 use std::alloc::{AllocError, Global};
 use std::str;
 
-/// The members of a policy as they are printed, one by one.
+/// The members of an object of a document as they are printed, one by one.
 #[derive(Drop)]
-struct Members<'m, 'd> {
-    alloc: Global,
-    document: &'m ObjectRef<'d>,
-    out: &'m mut Listing,
+pub(crate) struct Members<'m, 'd> {
+    pub(crate) alloc: Global,
+    /// What stands before each name.
+    pub(crate) head: &'m str,
+    pub(crate) document: &'m ObjectRef<'d>,
+    pub(crate) out: &'m mut Listing,
 }
 
-impl Members<'_, '_> {
-    /// A member with its value, and whether it stands in the document.
+impl<'d> Members<'_, 'd> {
+    /// Those of an object in it.
+    pub(crate) fn within<'n>(
+        &'n mut self,
+        head: &'n str,
+        document: &'n ObjectRef<'d>,
+    ) -> Members<'n, 'd> {
+        Members {
+            alloc: self.alloc,
+            head,
+            document,
+            out: &mut *self.out,
+        }
+    }
+
+    /// A member with its value, and whether it stands in the document. A value of which nothing is written isn't printed.
     fn put(&mut self, name: &str, value: JsonOut) -> Result<(), AllocError> {
         let value = value.into_text();
         let is_given = self.document.has(name);
@@ -26,22 +42,33 @@ impl Members<'_, '_> {
             Printing::Json => {
                 let given: &[u8] = if is_given { b"true" } else { b"false" };
                 fields.put(FieldName::Given, FieldValue::Json(given))?;
-                fields.put(FieldName::Value, FieldValue::Json(value.as_slice()))?;
+                if !value.is_empty() {
+                    fields.put(FieldName::Value, FieldValue::Json(value.as_slice()))?;
+                }
             }
             Printing::Lines => {
                 let given = if is_given { "given" } else { "default" };
                 fields.word(FieldName::Given, given)?;
-                let value = str::from_utf8(value.as_slice()).unwrap_or("");
-                fields.put(FieldName::Value, FieldValue::Word(value))?;
+                if !value.is_empty() {
+                    let value = str::from_utf8(value.as_slice()).unwrap_or("");
+                    fields.put(FieldName::Value, FieldValue::Word(value))?;
+                }
             }
         }
-        self.out.begin_object(name)?;
-        self.out.members(self.alloc, name, &fields)?;
+        let head = self.head;
+        let name = format!(in self.alloc; "{head}{name}")?;
+        self.out.begin_object(name.as_str())?;
+        self.out.members(self.alloc, name.as_str(), &fields)?;
         self.out.end_object()
     }
 
+    /// A member whose value isn't printed, since it is a secret or keys.
+    pub(crate) fn hidden(&mut self, name: &str) -> Result<(), AllocError> {
+        self.put(name, JsonOut::bare(self.alloc))
+    }
+
     /// A whole number, and null for none.
-    fn number(&mut self, name: &str, number: Option<u64>) -> Result<(), AllocError> {
+    pub(crate) fn number(&mut self, name: &str, number: Option<u64>) -> Result<(), AllocError> {
         let mut value = JsonOut::bare(self.alloc);
         match number {
             Some(number) => value.number(number)?,
@@ -51,14 +78,14 @@ impl Members<'_, '_> {
     }
 
     /// A truth value.
-    fn flag(&mut self, name: &str, flag: bool) -> Result<(), AllocError> {
+    pub(crate) fn flag(&mut self, name: &str, flag: bool) -> Result<(), AllocError> {
         let mut value = JsonOut::bare(self.alloc);
         value.boolean(flag)?;
         self.put(name, value)
     }
 
     /// A text, and null for none.
-    fn text(&mut self, name: &str, text: Option<&str>) -> Result<(), AllocError> {
+    pub(crate) fn text(&mut self, name: &str, text: Option<&str>) -> Result<(), AllocError> {
         let mut value = JsonOut::bare(self.alloc);
         match text {
             Some(text) => value.string(text)?,
@@ -68,25 +95,30 @@ impl Members<'_, '_> {
     }
 
     /// A list of texts.
-    fn texts(&mut self, name: &str, texts: &[String]) -> Result<(), AllocError> {
+    pub(crate) fn texts(&mut self, name: &str, texts: &[&str]) -> Result<(), AllocError> {
         let mut value = JsonOut::bare(self.alloc);
         value.begin_array()?;
         for text in texts {
-            value.string(text.as_str())?;
+            value.string(*text)?;
         }
         value.end_list()?;
         self.put(name, value)
     }
 
+    /// The same of owned texts.
+    fn owned(&mut self, name: &str, texts: &[String]) -> Result<(), AllocError> {
+        let texts: Vec<&str> = texts.iter().map(|text| text.as_str()).collect(self.alloc)?;
+        self.texts(name, texts.as_slice())
+    }
+
     /// The algorithms, by their names.
     fn algs(&mut self, policy: &Policy) -> Result<(), AllocError> {
-        let mut value = JsonOut::bare(self.alloc);
-        value.begin_array()?;
-        for alg in policy.algs() {
-            value.string(alg.text())?;
-        }
-        value.end_list()?;
-        self.put("algs", value)
+        let names: Vec<&str> = policy
+            .algs()
+            .iter()
+            .map(|alg| alg.text())
+            .collect(self.alloc)?;
+        self.texts("algs", names.as_slice())
     }
 }
 
@@ -102,12 +134,13 @@ fn mode_name(mode: Mode) -> &'static str {
 pub(crate) fn put_members(
     alloc: Global,
     out: &mut Listing,
+    head: &str,
     document: &ObjectRef<'_>,
     policy: &Policy,
 ) -> Result<(), AllocError> {
-    out.begin_object("members")?;
     let mut members = Members {
         alloc,
+        head,
         document,
         out,
     };
@@ -121,12 +154,11 @@ pub(crate) fn put_members(
     members.text("typ", policy.typ())?;
     members.flag("need_kid", policy.need_kid())?;
     members.flag("thumb_kid", policy.thumb_kid())?;
-    members.texts("understood", policy.understood())?;
-    members.texts("issuers", policy.issuers())?;
-    members.texts("audiences", policy.audiences())?;
-    members.texts("required", policy.required())?;
+    members.owned("understood", policy.understood())?;
+    members.owned("issuers", policy.issuers())?;
+    members.owned("audiences", policy.audiences())?;
+    members.owned("required", policy.required())?;
     members.number("leeway", Some(u64::from(policy.leeway())))?;
     members.number("max_age", policy.max_age().map(u64::from))?;
-    members.number("max_calls", policy.max_calls().map(u64::from))?;
-    members.out.end_object()
+    members.number("max_calls", policy.max_calls().map(u64::from))
 }
