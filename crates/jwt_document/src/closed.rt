@@ -245,7 +245,7 @@ fn is_known(rows: &[Row], name: &str) -> bool
 }
 
 /// The first name, in byte order, that no row has.
-#[tactic(auto, using(crate::proofs::NamesLemmas::length_names, crate::proofs::NamesLemmas::unknown_here, crate::proofs::NamesLemmas::unknown_later, crate::proofs::NamesLemmas::unknown_end, crate::proofs::NamesLemmas::unknown_past))]
+#[tactic(auto, using(jwt_access::proofs::NamesLemmas::length_names, crate::proofs::NamesLemmas::unknown_here, crate::proofs::NamesLemmas::unknown_later, crate::proofs::NamesLemmas::unknown_end, crate::proofs::NamesLemmas::unknown_past))]
 fn first_unknown<'a>(rows: &[Row], members: &ObjectRef<'a>) -> Option<&'a str>
     ensures { option_map (λ s. s.now) result ≡ unknown_in (map row_view rows.now) members.now }
 {

@@ -14,19 +14,19 @@ use strsim::levenshtein;
 
 // ---- rows
 
-/// The row of this name in the object.
-fn row_of(within: Within, name: &str) -> Option<Row> {
+/// The rows of the object. `rules` has none.
+fn rows_of(alloc: Global, within: Within) -> Result<Vec<Row>, AllocError> {
     match within {
-        Within::Whole => row_named(&the_service_rows(), name),
-        Within::Rules => None,
-        Within::Remember => row_named(&remembering_rows(), name),
-        Within::Dpop => row_named(&dpop_rows(), name),
-        Within::Nonce => row_named(&nonce_rows(), name),
-        Within::Memory => row_named(&memory_rows(), name),
-        Within::Issue => row_named(&issue_rows(), name),
-        Within::Onward => row_named(&onward_rows(), name),
-        Within::Entry => row_named(&entry_rows(), name),
-        Within::Keys => row_named(&keys_rows(), name),
+        Within::Whole => the_service_rows().to_vec(alloc),
+        Within::Rules => Ok(Vec::new(alloc)),
+        Within::Remember => remembering_rows().to_vec(alloc),
+        Within::Dpop => dpop_rows().to_vec(alloc),
+        Within::Nonce => nonce_rows().to_vec(alloc),
+        Within::Memory => memory_rows().to_vec(alloc),
+        Within::Issue => issue_rows().to_vec(alloc),
+        Within::Onward => onward_rows().to_vec(alloc),
+        Within::Entry => entry_rows().to_vec(alloc),
+        Within::Keys => keys_rows().to_vec(alloc),
     }
 }
 
@@ -53,23 +53,16 @@ fn nearest_in(alloc: Global, name: &str, rows: &[Row]) -> Result<Option<&'static
     }
 }
 
-/// The member of the object that is near to a name.
-fn nearest_of(
+/// The name that is near to an unknown one.
+pub(crate) fn nearest_to(
     alloc: Global,
-    within: Within,
-    name: &str,
+    fault: &ServiceFault,
 ) -> Result<Option<&'static str>, AllocError> {
-    match within {
-        Within::Whole => nearest_in(alloc, name, &the_service_rows()),
-        Within::Rules => Ok(None),
-        Within::Remember => nearest_in(alloc, name, &remembering_rows()),
-        Within::Dpop => nearest_in(alloc, name, &dpop_rows()),
-        Within::Nonce => nearest_in(alloc, name, &nonce_rows()),
-        Within::Memory => nearest_in(alloc, name, &memory_rows()),
-        Within::Issue => nearest_in(alloc, name, &issue_rows()),
-        Within::Onward => nearest_in(alloc, name, &onward_rows()),
-        Within::Entry => nearest_in(alloc, name, &entry_rows()),
-        Within::Keys => nearest_in(alloc, name, &keys_rows()),
+    match fault {
+        ServiceFault::Member(at) | ServiceFault::Entry(_, at) if at.cause() == Cause::Unknown => {
+            nearest_in(alloc, at.name(), &rows_of(alloc, at.within())?)
+        }
+        _ => Ok(None),
     }
 }
 
@@ -117,10 +110,40 @@ fn has_to_be(alloc: Global, at: &FaultAt) -> Result<String, AllocError> {
     if at.within() == Within::Nonce && at.name() == "secret" {
         return String::from_str(alloc, "32 octets or more, in base64url");
     }
-    match row_of(at.within(), at.name()) {
+    match row_named(&rows_of(alloc, at.within())?, at.name()) {
         Some(row) => kind_words(alloc, row.kind, at.element().is_some()),
         None => String::from_str(alloc, "an object, behind a name of 1 to 256 octets"),
     }
+}
+
+// ---- what it is about
+
+/// A member of an entry of `issuers`, or the entry.
+#[derive(Clone, Copy)]
+struct InEntry {
+    number: usize,
+    names: &'static [&'static str],
+}
+
+/// What a fault of an entry is about.
+fn in_entry(fault: &ServiceFault) -> Option<InEntry> {
+    let (number, names): (&usize, &'static [&'static str]) = match fault {
+        ServiceFault::EntryKind(n) | ServiceFault::Entry(n, _) => (n, &[]),
+        ServiceFault::Policy(n, _) => (n, &["policy"]),
+        ServiceFault::Issuer(n) | ServiceFault::IssuerTwice(n) => (n, &["policy", "issuers"]),
+        ServiceFault::NotPublic(n) => (n, &["policy", "algs"]),
+        ServiceFault::Together(n) | ServiceFault::Keys(n, _) | ServiceFault::NoUsableKey(n) => {
+            (n, &["keys"])
+        }
+        ServiceFault::ShortSecret(n) => (n, &["keys", "secret"]),
+        ServiceFault::Url(n) => (n, &["keys", "url"]),
+        ServiceFault::Pem(n, _) => (n, &["keys", "pem"]),
+        _ => return None,
+    };
+    Some(InEntry {
+        number: *number,
+        names,
+    })
 }
 
 // ---- where it is
@@ -134,13 +157,24 @@ fn joined(alloc: Global, outer: &str, inner: &str) -> Result<String, AllocError>
     }
 }
 
-/// The path of an object, as `dpop.nonce`; empty for that of the whole or of an entry.
-fn object_path(alloc: Global, within: Within) -> Result<String, AllocError> {
-    let mut path = String::new(alloc);
-    for name in within.path() {
+/// Names behind a path, as `issuers[0].keys`.
+fn path_of(alloc: Global, outer: &str, names: &[&'static str]) -> Result<String, AllocError> {
+    let mut path = String::from_str(alloc, outer)?;
+    for name in names {
         path = joined(alloc, path.as_str(), name)?;
     }
     Ok(path)
+}
+
+/// The path of what a fault of an entry is about; empty for another fault.
+fn entry_path(alloc: Global, fault: &ServiceFault) -> Result<String, AllocError> {
+    match in_entry(fault) {
+        Some(at) => {
+            let entry = format!(in alloc; "issuers[{}]", at.number)?;
+            path_of(alloc, entry.as_str(), at.names)
+        }
+        None => Ok(String::new(alloc)),
+    }
 }
 
 /// The name of a member, where it isn't a plain word as JSON has it; with the number of its element where the fault is about one.
@@ -164,8 +198,7 @@ fn at_line(
     at: &FaultAt,
     nearest: Option<&'static str>,
 ) -> Result<String, AllocError> {
-    let inner = object_path(alloc, at.within())?;
-    let object = joined(alloc, entry, inner.as_str())?;
+    let object = path_of(alloc, entry, at.within().path())?;
     let name = name_of(alloc, at)?;
     let member = joined(alloc, object.as_str(), name.as_str())?;
     let (object, member) = (object.as_str(), member.as_str());
@@ -193,102 +226,60 @@ fn at_line(
     }
 }
 
-/// What is wrong with an entry, behind where it is.
-fn entry_line(
-    alloc: Global,
-    number: usize,
-    place: &str,
-    words: &str,
-) -> Result<String, AllocError> {
-    format!(in alloc; "issuers[{number}]{place}: {words}")
+/// What is wrong, where a fault says no more than its name.
+fn plain_words(fault: &ServiceFault) -> &'static str {
+    match fault {
+        ServiceFault::OutOfMemory => "out of memory",
+        ServiceFault::TooLong => "more than 4,194,304 octets",
+        ServiceFault::Json => "not a JSON object",
+        ServiceFault::NameTwice => "a name stands twice",
+        ServiceFault::EntryKind(_) => "it has to be an object",
+        ServiceFault::Together(_) => {
+            "exactly one of set, pem, secret, file, url and discover has to be there, and beside it nothing that it doesn't have"
+        }
+        ServiceFault::NoUsableKey(_) => "no key can verify by an algorithm of the policy",
+        ServiceFault::ShortSecret(_) => "it is shorter than an algorithm of the policy asks for",
+        ServiceFault::Url(_) => "it has to be a URL of https, or of http where \"http\" is true",
+        ServiceFault::Issuer(_) => {
+            "it has to name an issuer, and one alone where its metadata are asked"
+        }
+        ServiceFault::IssuerTwice(_) => "it names an issuer that an earlier entry names",
+        ServiceFault::NotPublic(_) => "it has an algorithm of HMAC beside keys that are public",
+        _ => "",
+    }
 }
 
 /// A fault in one line.
 pub(crate) fn line_of(alloc: Global, fault: &ServiceFault) -> Result<String, AllocError> {
+    let entry = entry_path(alloc, fault)?;
+    let entry = entry.as_str();
     match fault {
-        ServiceFault::OutOfMemory => String::from_str(alloc, "out of memory"),
-        ServiceFault::TooLong => String::from_str(alloc, "more than 4,194,304 octets"),
-        ServiceFault::Json => String::from_str(alloc, "not a JSON object"),
-        ServiceFault::NameTwice => String::from_str(alloc, "a name stands twice"),
-        ServiceFault::Member(at) => {
+        ServiceFault::Member(at) | ServiceFault::Entry(_, at) => {
             let nearest = nearest_to(alloc, fault)?;
-            at_line(alloc, "", at, nearest)
+            at_line(alloc, entry, at, nearest)
         }
-        ServiceFault::Entry(number, at) => {
-            let nearest = nearest_to(alloc, fault)?;
-            let entry = format!(in alloc; "issuers[{number}]")?;
-            at_line(alloc, entry.as_str(), at, nearest)
-        }
-        ServiceFault::EntryKind(n) => entry_line(alloc, *n, "", "it has to be an object"),
-        ServiceFault::Policy(n, why) => { format!(in alloc; "issuers[{n}].policy: {why}") }
-        ServiceFault::Together(n) => entry_line(
-            alloc,
-            *n,
-            ".keys",
-            "exactly one of set, pem, secret, file, url and discover has to be there, and beside it nothing that it doesn't have",
-        ),
-        ServiceFault::Keys(n, why) => format!(in alloc; "issuers[{n}].keys: {why}"),
-        ServiceFault::NoUsableKey(n) => entry_line(
-            alloc,
-            *n,
-            ".keys",
-            "no key can verify by an algorithm of the policy",
-        ),
-        ServiceFault::ShortSecret(n) => entry_line(
-            alloc,
-            *n,
-            ".keys.secret",
-            "it is shorter than an algorithm of the policy asks for",
-        ),
-        ServiceFault::Url(n) => entry_line(
-            alloc,
-            *n,
-            ".keys.url",
-            "it has to be a URL of https, or of http where \"http\" is true",
-        ),
-        ServiceFault::Issuer(n) => entry_line(
-            alloc,
-            *n,
-            ".policy.issuers",
-            "it has to name an issuer, and one alone where its metadata are asked",
-        ),
-        ServiceFault::IssuerTwice(n) => entry_line(
-            alloc,
-            *n,
-            ".policy.issuers",
-            "it names an issuer that an earlier entry names",
-        ),
-        ServiceFault::NotPublic(n) => entry_line(
-            alloc,
-            *n,
-            ".policy.algs",
-            "it has an algorithm of HMAC beside keys that are public",
-        ),
-        ServiceFault::Rule(name, why) => { format!(in alloc; "rules[{:?}]: {why}", name.text()) }
-        ServiceFault::Pem(n, why) => { format!(in alloc; "issuers[{n}].keys.pem: {}", why.name()) }
-    }
-}
-
-/// The name that is near to an unknown one.
-pub(crate) fn nearest_to(
-    alloc: Global,
-    fault: &ServiceFault,
-) -> Result<Option<&'static str>, AllocError> {
-    match fault {
-        ServiceFault::Member(at) | ServiceFault::Entry(_, at) if at.cause() == Cause::Unknown => {
-            nearest_of(alloc, at.within(), at.name())
-        }
-        _ => Ok(None),
+        ServiceFault::Policy(_, why) => format!(in alloc; "{entry}: {why}"),
+        ServiceFault::Keys(_, why) => format!(in alloc; "{entry}: {why}"),
+        ServiceFault::Pem(_, why) => format!(in alloc; "{entry}: {}", why.name()),
+        ServiceFault::Rule(name, why) => format!(in alloc; "rules[{:?}]: {why}", name.text()),
+        _ if entry.is_empty() => String::from_str(alloc, plain_words(fault)),
+        _ => format!(in alloc; "{entry}: {}", plain_words(fault)),
     }
 }
 
 // ---- where in the text
 
-/// Adds the steps to the member of a fault.
-fn add_steps<'a>(steps: &mut Vec<Step<'a>>, at: &'a FaultAt) -> Result<(), AllocError> {
-    for name in at.within().path() {
+/// Adds steps to members, each in the object of the one before.
+fn add_names(steps: &mut Vec<Step<'_>>, names: &[&'static str]) -> Result<(), AllocError> {
+    for name in names {
         steps.push(Step::Name(name))?;
     }
+    Ok(())
+}
+
+/// Adds the steps to the member of a fault.
+fn add_steps<'a>(steps: &mut Vec<Step<'a>>, at: &'a FaultAt) -> Result<(), AllocError> {
+    add_names(steps, at.within().path())?;
     steps.push(Step::Name(at.name()))?;
     if let Some(number) = at.element() {
         steps.push(Step::Number(number))?;
@@ -296,45 +287,19 @@ fn add_steps<'a>(steps: &mut Vec<Step<'a>>, at: &'a FaultAt) -> Result<(), Alloc
     Ok(())
 }
 
-/// The steps to a member of an entry, and into it.
-fn entry_steps(
-    steps: &mut Vec<Step<'_>>,
-    number: usize,
-    names: &[&'static str],
-) -> Result<(), AllocError> {
-    steps.push(Step::Name("issuers"))?;
-    steps.push(Step::Number(number))?;
-    for name in names {
-        steps.push(Step::Name(name))?;
-    }
-    Ok(())
-}
-
 /// The steps to what a fault is about.
 fn steps_of(alloc: Global, fault: &ServiceFault) -> Result<Vec<Step<'_>>, AllocError> {
     let mut steps = Vec::new(alloc);
+    if let Some(at) = in_entry(fault) {
+        steps.push(Step::Name("issuers"))?;
+        steps.push(Step::Number(at.number))?;
+        add_names(&mut steps, at.names)?;
+    }
     match fault {
-        ServiceFault::Member(at) => add_steps(&mut steps, at)?,
-        ServiceFault::Entry(n, at) => {
-            entry_steps(&mut steps, *n, &[])?;
-            add_steps(&mut steps, at)?;
-        }
-        ServiceFault::EntryKind(n) => entry_steps(&mut steps, *n, &[])?,
-        ServiceFault::Policy(n, PolicyFault::Member(name) | PolicyFault::Range(name)) => {
-            entry_steps(&mut steps, *n, &["policy"])?;
+        ServiceFault::Member(at) | ServiceFault::Entry(_, at) => add_steps(&mut steps, at)?,
+        ServiceFault::Policy(_, PolicyFault::Member(name) | PolicyFault::Range(name)) => {
             steps.push(Step::Name(name.text()))?;
         }
-        ServiceFault::Policy(n, _) => entry_steps(&mut steps, *n, &["policy"])?,
-        ServiceFault::Together(n) | ServiceFault::Keys(n, _) | ServiceFault::NoUsableKey(n) => {
-            entry_steps(&mut steps, *n, &["keys"])?;
-        }
-        ServiceFault::ShortSecret(n) => entry_steps(&mut steps, *n, &["keys", "secret"])?,
-        ServiceFault::Url(n) => entry_steps(&mut steps, *n, &["keys", "url"])?,
-        ServiceFault::Pem(n, _) => entry_steps(&mut steps, *n, &["keys", "pem"])?,
-        ServiceFault::Issuer(n) | ServiceFault::IssuerTwice(n) => {
-            entry_steps(&mut steps, *n, &["policy", "issuers"])?;
-        }
-        ServiceFault::NotPublic(n) => entry_steps(&mut steps, *n, &["policy", "algs"])?,
         ServiceFault::Rule(name, _) => {
             steps.push(Step::Name("rules"))?;
             steps.push(Step::Name(name.text()))?;

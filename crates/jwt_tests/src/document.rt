@@ -233,33 +233,44 @@ const SAID: &str = r#"1:15 unknown member "rule", did you mean "rules"?
 {"issuers":[],"prepare":"16"}
 1:1 the member "issuers" is missing
 {}
+1:14 issuers[0]: unknown member "policys", did you mean "policy"?
+{"issuers":[{"policys":{},"keys":{}}]}
+1:13 issuers[0]: the member "keys" is missing
+{"issuers":[{"policy":{}}]}
+1:79 issuers[1]: it has to be an object
+{"issuers":[{"policy":{"algs":["RS256"],"issuers":["a"]},"keys":{"file":"a"}},7]}
+1:56 dpop.nonce.secret: it has to be 32 octets or more, in base64url
+{"issuers":[],"dpop":{"origins":["https://a"],"nonce":{"secret":"x"}}}
+1:48 memory: the member "proofs" is missing
+{"issuers":[],"dpop":{"origins":["https://a"]},"memory":{}}
+1:66 issuers[0].keys.url: it has to be a URL of https, or of http where "http" is true
+{"issuers":[{"policy":{"algs":["RS256"],"issuers":["a"]},"keys":{"url":"a"}}]}
+1:24 issuers[0].policy.algs: it has an algorithm of HMAC beside keys that are public
+{"issuers":[{"policy":{"algs":["HS256"],"issuers":["a"]},"keys":{"discover":true}}]}
+1:24 rules.a: it has to be an object, behind a name of 1 to 256 octets
+{"issuers":[],"rules":{"a":7}}
 1:16 not a JSON object
 {"issuers": [],}"#;
 
-/// Whether each fault is said so.
-fn are_said(alloc: Global) -> Result<bool, Fail> {
+/// Stops where a fault is said otherwise.
+fn assert_said(rt: &impl Abort, alloc: Global) -> Result<(), Fail> {
     let mut lines = SAID.lines();
     while let Some(said) = lines.next() {
         let document = lines.next().ok_or("no document")?;
         let Err(fault) = Document::read(alloc, document.as_bytes()) else {
-            return Ok(false);
+            return Err(Fail::from("a document that is read"));
         };
         let line = fault.line(alloc)?;
-        let Some(place) = fault.place(alloc, document.as_bytes())? else {
-            return Ok(false);
-        };
+        let place = fault.place(alloc, document.as_bytes())?.ok_or("no place")?;
         let told = format!(in alloc; "{}:{} {}", place.line, place.column, line.as_str())?;
-        if told.as_str() != said {
-            return Ok(false);
-        }
+        assert!(rt; told.as_str() == said, "{told}");
     }
-    Ok(true)
+    Ok(())
 }
 
 /// A document says what it says, and why it is refused.
 #[test]
 fn documents_and_faults_are_handed_out(rt: HostRuntime) -> Result<(), Fail> {
     holds(&rt, has_what_is_written(rt.alloc()).unwrap_or(false));
-    holds(&rt, are_said(rt.alloc())?);
-    Ok(())
+    assert_said(&rt, rt.alloc())
 }
