@@ -2,6 +2,7 @@
 pub mod ElementLemmas
 pub mod NamesLemmas
 -- ---- For given.rt
+pub mod SecretLemmas
 pub mod SomeLemmas
 -- ---- For entries.rt
 pub mod Each

@@ -19,7 +19,7 @@ use Rattle.jwt_document.specs.Tables.{first_fault, is_true_at}
 use Rattle.jwt_document.specs.Service.{entry_tables}
 use Rattle.jwt_document.specs.Given.{keys_of}
 
--- what is asked of its tokens, where its keys come from, and the keys, where the document has them as a set
+-- what is asked of its tokens, where its keys come from, and the keys, where the document has them as a set or a secret
 pub record Issuer : Type 0 where
   pub policy : Settings
   pub source : Source

@@ -14,6 +14,8 @@ pub mod Entries
 pub mod Together
 -- what members need of each other, and of secrets
 pub mod Needs
+-- the keys by which tokens are issued
+pub mod Issuing
 -- the rules of a service, by name
 pub mod Rules
 -- the document of a service, or the first cause to refuse it

@@ -108,7 +108,6 @@ pub record IsMemory (ms : Members) (it : Memory) : Type 0 where
   pub earlier : it.earlier ≡ is_true_at (codes "earlier") ms
 
 pub record IsIssue (ms : Members) (it : Issue) : Type 0 where
-  pub secret : text_if it.secret ≡ text_at (codes "secret") ms
   pub alg : it.alg.now ≡ text_in (rows_of issue) (codes "alg") ms
   pub typ : text_if it.typ ≡ text_at (codes "typ") ms
   pub form : it.form.now ≡ text_in (rows_of issue) (codes "form") ms
@@ -152,8 +151,3 @@ pub record IsKeys (origin : Origin) (it : Keys) : Type 0 where
   pub cool_down : it.cool_down ≡ number_in (rows_of keys) (codes "cool_down") origin.said
   pub timeout : it.timeout ≡ number_in (rows_of keys) (codes "timeout") origin.said
   pub http : it.http ≡ is_true_at (codes "http") origin.said
-
--- ---- the key set of what issues
-
-abbrev pub issue_set_in : Members → Option Members
-issue_set_in ms = option_and_then (object_at (codes "set")) (object_at (codes "issue") ms)

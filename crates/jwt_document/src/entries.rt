@@ -70,7 +70,7 @@ impl Entry {
         self.source
     }
 
-    /// Its keys, where the document has them as a set.
+    /// Its keys, where the document has them as a set or a secret.
     pub fn keys(&self) -> Option<&KeySet>
         ensures { option_map (λ k. key_set k.now) result ≡ self.now.keys }
     {

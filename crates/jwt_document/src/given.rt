@@ -1,22 +1,24 @@
 //! The keys that stand in the document, and the URL of those that don't.
 
-ghost use Rattle.std.specs.Prelude.{◌≡◌, false, option_map, slice_get};
+ghost use Rattle.std.specs.Prelude.{◌≡◌, Ok, false, true, length, IfSome, option_map, slice_get};
 ghost use Rattle.std.specs.List.{list_any};
 ghost use Rattle.std.specs.Option.{option_map_or};
 ghost use Rattle.jwt_mac.specs.Algorithm.{is_hmac_alg};
 ghost use Rattle.jwt_policy.specs.Eligible.{is_for};
+ghost use Rattle.jwt_jwk.specs.Jwk.{is_size};
 ghost use Rattle.jwt_keys.specs.KeySets.{key_set};
 ghost use Rattle.jwt_keys.specs.Views.{key_parts};
 ghost use Rattle.jwt_text.specs.Answers.{Answers};
-ghost use Rattle.jwt_document.specs.Given.{is_usable_for, has_usable, is_short, set_keys, secret_fault, url_fault, keys_of};
+ghost use Rattle.jwt_document.specs.Given.{is_usable_for, has_usable, is_short, set_keys, secret_at, secret_set, secret_fault, url_fault, keys_of};
 
 use crate::entries::Source;
 use crate::fault::ServiceFault;
+use jwt_jwk::write_jwk;
 use jwt_keys::{Key, KeySet, KeysFault};
-use jwt_mac::Alg;
+use jwt_mac::{Alg, KeyView};
 use jwt_policy::{Policy, is_for};
 use jwt_request::urls::url_of;
-use jwt_text::ObjectRef;
+use jwt_text::{ObjectRef, object};
 use std::alloc::Global;
 
 /// Whether the key is for one of these algorithms.
@@ -106,6 +108,38 @@ fn set_keys(
     }
 }
 
+/// The secret, of 1 to 4,096 octets as its row says.
+pub(crate) fn secret_at<'a>(members: &ObjectRef<'a>) -> Option<&'a str>
+    ensures secret { option_map (λ s. s.now) result ≡ secret_at members.now }
+    ensures size { IfSome result (λ s. is_size (length s.now) ≡ true) }
+{
+    let secret = members.text("secret")?;
+    if 1 <= secret.len() && secret.len() <= 4_096 {
+        Some(secret)
+    } else {
+        None
+    }
+}
+
+/// The set of a secret.
+#[tactic(auto, using(crate::proofs::SecretLemmas::set_read))]
+pub(crate) fn secret_set(alloc: Global, secret: &str) -> Result<KeySet, ServiceFault>
+    requires { is_size (length secret.now) ≡ true }
+    ensures { Answers ServiceFault.OutOfMemory key_set result (Ok (secret_set secret.now)) }
+{
+    let key = KeyView::Oct {
+        k: secret.as_bytes(),
+    };
+    let Ok(jwk) = write_jwk(alloc, key, None, None) else {
+        return Err(ServiceFault::OutOfMemory);
+    };
+    let Ok(entry) = object(alloc, jwk.as_slice()) else {
+        return Err(ServiceFault::OutOfMemory);
+    };
+    let keys = KeySet::of_entry(alloc, entry.lend())?;
+    Ok(keys)
+}
+
 /// Why a secret isn't one for these algorithms.
 fn secret_fault(number: usize, algs: &[Alg], secret: &str) -> Option<ServiceFault>
     ensures { result ≡ secret_fault number algs.now secret.now }
@@ -129,7 +163,7 @@ fn url_fault(number: usize, http: bool, url: &str) -> Option<ServiceFault>
     }
 }
 
-/// The keys of an entry where they stand in the document as a set.
+/// The keys of an entry where they stand in the document as a set or a secret.
 pub(crate) fn keys_of(
     alloc: Global,
     number: usize,
@@ -145,10 +179,10 @@ pub(crate) fn keys_of(
             Some(set) => set_keys(alloc, number, policy.algs(), &set),
             None => Err(ServiceFault::EntryKind(number)),
         },
-        Source::Secret => match members.text("secret") {
+        Source::Secret => match secret_at(members) {
             Some(secret) => match secret_fault(number, policy.algs(), secret) {
                 Some(fault) => Err(fault),
-                None => Ok(None),
+                None => Ok(Some(secret_set(alloc, secret)?)),
             },
             None => Err(ServiceFault::EntryKind(number)),
         },

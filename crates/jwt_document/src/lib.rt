@@ -6,6 +6,7 @@ mod document;
 mod entries;
 mod fault;
 mod given;
+mod issuing;
 mod needs;
 mod pem;
 mod place;

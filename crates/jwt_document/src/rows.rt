@@ -121,4 +121,6 @@ pub enum Cause {
     Together,
     /// It is a secret of too few octets.
     Short,
+    /// No key has this number and signs by the algorithm.
+    NoKey,
 }

@@ -92,8 +92,6 @@ pub struct Memory {
 /// How tokens are issued.
 #[derive(Clone, Copy)]
 pub struct Issue<'d> {
-    /// The secret by which they are signed, where it isn't a key of a set.
-    pub secret: Option<&'d str>,
     /// The algorithm.
     pub alg: &'d str,
     /// `typ` of the protected header, where it has one.
@@ -232,7 +230,6 @@ pub(crate) fn issue_in<'d>(members: &ObjectRef<'d>) -> Issue<'d>
 {
     let rows = issue_rows();
     Issue {
-        secret: members.text("secret"),
         alg: text_in(members, &rows, "alg"),
         typ: members.text("typ"),
         form: text_in(members, &rows, "form"),

@@ -219,6 +219,9 @@ fn at_line(
             "{member}: exactly one of set and secret has to be there"
         ),
         (Cause::Short, _) => format!(in alloc; "{member}: it has too few octets"),
+        (Cause::NoKey, _) => {
+            format!(in alloc; "{member}: no key of this number can sign by the algorithm")
+        }
         (Cause::Kind | Cause::Range, _) => {
             let words = has_to_be(alloc, at)?;
             format!(in alloc; "{member}: it has to be {}", words.as_str())

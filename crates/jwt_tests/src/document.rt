@@ -1,6 +1,8 @@
 //! The document of a service.
 use crate::asserted::holds;
 use jwt_document::{Cause, Certificates, Document, FaultAt, ServiceFault, Source};
+use jwt_keys::Key;
+use jwt_mac::KeyView;
 use std::alloc::Global;
 use std::process::Abort;
 use std::test::Fail;
@@ -17,6 +19,7 @@ const READ: &str = r#"0,0 {"issuers":[]}
 0,0 {"issuers":[],"remember":{"tokens":1000},"prepare":4,"earliest":0}
 0,4 {"issuers":[],"rules":{"orders":{"scopes":["orders:read"]},"change orders":{"scopes":["orders:read","orders:write"]},"admin":{"claims":{"/realm_access/roles":["admin"]}},"signed in":{}},"describe":true}
 0,1 {"issuers":[],"rules":{"default":{"only":{"aud":["shop"]},"ages":{"auth_time":3600}}},"expects":["nonce"]}
+0,0 {"issuers":[],"issue":{"alg":"HS256","key":1,"set":{"keys":[{"kty":"EC","crv":"P-256","x":"5giCS5gZo8D8MISLn5buTJV3o2BqanitViNxRVk5q-A","y":"M1yUU4gZYfRk8SQEuGoX9HO9sig_7fp-q6qKN8-lSIo"},{"kty":"oct","use":"sig","k":"AAECAwQFBgcICQoLDA0ODxAREhMUFRYXGBkaGxwdHh8"}]}}}
 0,0 {"issuers":[],"issue":{"secret":"kQ2vWc8rTn5xYb1LsZe7MdHf4JgUa9Po","alg":"HS256"},"onward":{"issuer":"gateway","audience":"inside","claims":["sub","scope","email"]},"realm":"shop"}
 1,0 {"issuers":[{"policy":{"algs":["RS256"],"issuers":["a"]},"keys":{"url":"http://id.example/keys","http":true}}]}
 1,0 {"issuers":[{"policy":{"algs":["HS256"]},"keys":{"file":"secret.json"}}]}"#;
@@ -45,6 +48,12 @@ Missing:issue {"issuers":[],"onward":{"issuer":"a","audience":"b"}}
 Range:claims[0] {"issuers":[],"onward":{"issuer":"a","audience":"b","claims":["exp"]},"issue":{"alg":"HS256"}}
 Together:issue {"issuers":[],"issue":{"alg":"HS256"}}
 Together:issue {"issuers":[],"issue":{"alg":"HS256","set":{"keys":[]},"secret":"kQ2vWc8rTn5xYb1LsZe7MdHf4JgUa9Po"}}
+NoKey:key {"issuers":[],"issue":{"alg":"HS256","set":{"keys":[]}}}
+NoKey:key {"issuers":[],"issue":{"alg":"HS256","set":{"key":[]}}}
+NoKey:key {"issuers":[],"issue":{"alg":"HS256","key":1,"set":{"keys":[{"kty":"oct","k":"AAECAwQFBgcICQoLDA0ODxAREhMUFRYXGBkaGxwdHh8"}]}}}
+NoKey:key {"issuers":[],"issue":{"alg":"HS384","set":{"keys":[{"kty":"oct","k":"AAECAwQFBgcICQoLDA0ODxAREhMUFRYXGBkaGxwdHh8"}]}}}
+NoKey:key {"issuers":[],"issue":{"alg":"HS256","set":{"keys":[{"kty":"oct","key_ops":["verify"],"k":"AAECAwQFBgcICQoLDA0ODxAREhMUFRYXGBkaGxwdHh8"}]}}}
+NoKey:key {"issuers":[],"issue":{"alg":"HS256","key":1,"secret":"kQ2vWc8rTn5xYb1LsZe7MdHf4JgUa9Po"}}
 Short:secret {"issuers":[],"issue":{"alg":"HS384","secret":"kQ2vWc8rTn5xYb1LsZe7MdHf4JgUa9Po"}}
 Short:secret {"issuers":[],"dpop":{"origins":["https://api.example"],"nonce":{"secret":"AAECAwQFBgcICQoLDA0ODxAREhMUFRYXGBkaGxwdHg"}}}
 Range:secret {"issuers":[],"dpop":{"origins":["https://api.example"],"nonce":{"secret":"AAECAwQFBgcICQoLDA0ODxAREhMUFRYXGBkaGxwdHh8="}}}
@@ -77,6 +86,7 @@ fn told_at(alloc: Global, at: &FaultAt) -> Result<String, Fail> {
         Cause::Range => "Range",
         Cause::Together => "Together",
         Cause::Short => "Short",
+        Cause::NoKey => "NoKey",
     };
     match at.element() {
         Some(element) => Ok(format!(in alloc; "{cause}:{}[{element}]", at.name())?),
@@ -222,6 +232,30 @@ fn has_what_is_written(alloc: Global) -> Option<bool> {
     )
 }
 
+/// Whether secrets are handed out as the sets of one key.
+fn has_secrets(alloc: Global) -> Option<bool> {
+    let document = Document::read(
+        alloc,
+        br#"{"issuers":[{"policy":{"algs":["HS256"]},"keys":{"secret":"uR9hC0wq3vE8kTzN5bYd2LmXs7JaPfG4"}}],"issue":{"secret":"kQ2vWc8rTn5xYb1LsZe7MdHf4JgUa9Po","alg":"HS256"}}"#,
+    )
+    .ok()?;
+    let own = document.keys(0)?.key(0)?;
+    let issuing = document.issue_keys()?.key(0)?;
+    Some(
+        secret(own) == Some(b"uR9hC0wq3vE8kTzN5bYd2LmXs7JaPfG4")
+            && secret(issuing) == Some(b"kQ2vWc8rTn5xYb1LsZe7MdHf4JgUa9Po")
+            && document.keys(0)?.len() == 1,
+    )
+}
+
+/// The secret of a key.
+fn secret(key: &Key) -> Option<&[u8]> {
+    match key.view() {
+        KeyView::Oct { k } => Some(k),
+        _ => None,
+    }
+}
+
 /// Documents that are refused, each behind a line of what is said of its fault and where.
 const SAID: &str = r#"1:15 unknown member "rule", did you mean "rules"?
 {"issuers":[],"rule":{}}
@@ -249,6 +283,8 @@ const SAID: &str = r#"1:15 unknown member "rule", did you mean "rules"?
 {"issuers":[{"policy":{"algs":["HS256"],"issuers":["a"]},"keys":{"discover":true}}]}
 1:24 rules.a: it has to be an object, behind a name of 1 to 256 octets
 {"issuers":[],"rules":{"a":7}}
+1:24 issue.key: no key of this number can sign by the algorithm
+{"issuers":[],"issue":{"key":1,"alg":"HS256","secret":"kQ2vWc8rTn5xYb1LsZe7MdHf4JgUa9Po"}}
 1:16 not a JSON object
 {"issuers": [],}"#;
 
@@ -272,5 +308,6 @@ fn assert_said(rt: &impl Abort, alloc: Global) -> Result<(), Fail> {
 #[test]
 fn documents_and_faults_are_handed_out(rt: HostRuntime) -> Result<(), Fail> {
     holds(&rt, has_what_is_written(rt.alloc()).unwrap_or(false));
+    holds(&rt, has_secrets(rt.alloc()).unwrap_or(false));
     assert_said(&rt, rt.alloc())
 }
