@@ -17,6 +17,7 @@ fn cause_name(cause: Cause) -> &'static str {
         Cause::Range => "Range",
         Cause::Together => "Together",
         Cause::Short => "Short",
+        Cause::NoKey => "NoKey",
     }
 }
 

@@ -188,11 +188,7 @@ fn put_issue(members: &mut Members<'_, '_>, document: &Document) -> Result<(), A
     match (members.document.object("issue"), document.issue()) {
         (Some(said), Some(issue)) => {
             let mut inner = members.within("/issue/", &said);
-            inner.hidden(if issue.secret.is_some() {
-                "secret"
-            } else {
-                "set"
-            })?;
+            inner.hidden(if said.has("secret") { "secret" } else { "set" })?;
             inner.text("alg", Some(issue.alg))?;
             inner.text("typ", issue.typ)?;
             inner.text("form", Some(issue.form))?;
